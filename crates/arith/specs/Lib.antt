@@ -1,0 +1,4 @@
+pub mod Floats
+pub mod Order
+pub mod Run
+pub mod RunLaws

@@ -1,0 +1,100 @@
+-- Document 01, "The bytes of a job": the ranges 3 to 13, each by its number, its sentence and a test that computes. "Ends are included."
+use Prim.Native.Nat.{ℕ, _+_}
+use mathlib.Core.Bool.{Bool, _&&_}
+use lib.Dec.{leb}
+use lib.IntN.{ℤ, pos}
+use lib.Signed.{leZ}
+use lib.Ieee.{Float, binary32, ofBits, neg, le}
+
+-- from lo to hi; "NaN never is within", and −0 lies within a range that starts at 0
+unfoldable pub within : Float → Float → Float → Bool
+within lo hi x = le lo x && le x hi
+
+abbrev f32 : ℕ → Float
+f32 = ofBits binary32
+
+-- 3. "k, a point counted from 0, is above 4."
+abbrev pub refusalK : ℕ
+refusalK = 3
+
+abbrev pub kWithin : ℕ → Bool
+kWithin k = leb k 4
+
+-- 4. "nang is above 40."
+abbrev pub refusalNang : ℕ
+refusalNang = 4
+
+abbrev pub nangWithin : ℕ → Bool
+nangWithin nang = leb nang 40
+
+-- 5. "freq is not within 2 to 30 (NaN never is within, here and below)."
+abbrev pub refusalFreq : ℕ
+refusalFreq = 5
+
+abbrev pub freqWithin : Float → Bool
+freqWithin = within (f32 0x40000000) (f32 0x41f00000)
+
+-- 6. "amind is not within 0 to 90."
+abbrev pub refusalAmind : ℕ
+refusalAmind = 6
+
+abbrev pub amindWithin : Float → Bool
+amindWithin = within (f32 0) (f32 0x42b40000)
+
+-- 7. "ghop is not within 0 to 4."
+abbrev pub refusalGhop : ℕ
+refusalGhop = 7
+
+abbrev pub ghopWithin : Float → Bool
+ghopWithin = within (f32 0) (f32 0x40800000)
+
+-- 8. "At point k, fi's second is not within 0 to 100 or its third not within 0.1 to 100."
+abbrev pub refusalFi : ℕ
+refusalFi = 8
+
+abbrev pub fiWithin : Float → Float → Bool
+fiWithin second third = within (f32 0) (f32 0x42c80000) second && within (f32 0x3dcccccd) (f32 0x42c80000) third
+
+-- 9. "An fvert is not within 0 to 100, an hprim 0 to 10000, an htrue 0 to 2000 or an afac −1000000 to 1000000."
+abbrev pub refusalTable : ℕ
+refusalTable = 9
+
+abbrev pub fvertWithin : Float → Bool
+fvertWithin = within (f32 0) (f32 0x42c80000)
+
+abbrev pub hprimWithin : Float → Bool
+hprimWithin = within (f32 0) (f32 0x461c4000)
+
+abbrev pub htrueWithin : Float → Bool
+htrueWithin = within (f32 0) (f32 0x44fa0000)
+
+abbrev pub afacWithin : Float → Bool
+afacWithin = within (neg (f32 0x49742400)) (f32 0x49742400)
+
+-- 10. "An ifob entry is not within 0 to 99999."
+abbrev pub refusalIfob : ℕ
+refusalIfob = 10
+
+abbrev pub ifobWithin : ℤ → Bool
+ifobWithin x = leZ (pos 0) x && leZ x (pos 99999)
+
+-- 11. "`accumulate` has ist 0 or lst above 7."
+abbrev pub refusalSlots : ℕ
+refusalSlots = 11
+
+abbrev pub slotsWithin : ℕ → ℕ → Bool
+slotsWithin ist lst = leb 1 ist && leb lst 7
+
+-- 12. "`accumulate` would end with a count above 20, counting what was there before."
+abbrev pub refusalCount : ℕ
+refusalCount = 12
+
+abbrev pub countWithin : ℕ → ℕ → Bool
+countWithin before added = leb (before + added) 20
+
+-- 13. "`prbmuf` has a layer outside 1 to 4."
+abbrev pub refusalLayer : ℕ
+refusalLayer = 13
+
+abbrev pub layerWithin : ℕ → Bool
+layerWithin layer = leb 1 layer && leb layer 4

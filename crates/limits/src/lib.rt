@@ -1,0 +1,127 @@
+// The ranges that a job, `accumulate` and `prbmuf` are held to, each with the number of its refusal (document 01, "The bytes of a job", 3 to 13).
+ghost use mathlib.Core.Path.{_≡_};
+ghost use Rattle.limits.specs.Limits.{kWithin, nangWithin, freqWithin, amindWithin, ghopWithin, fiWithin};
+ghost use Rattle.limits.specs.Limits.{fvertWithin, hprimWithin, htrueWithin, afacWithin, ifobWithin};
+ghost use Rattle.limits.specs.Limits.{slotsWithin, countWithin, layerWithin};
+ghost use Rattle.limits.specs.Limits as meant;
+
+pub const REFUSAL_K: u32 = 3;
+
+pub const REFUSAL_NANG: u32 = 4;
+
+pub const REFUSAL_FREQ: u32 = 5;
+
+pub const REFUSAL_AMIND: u32 = 6;
+
+pub const REFUSAL_GHOP: u32 = 7;
+
+pub const REFUSAL_FI: u32 = 8;
+
+pub const REFUSAL_TABLE: u32 = 9;
+
+pub const REFUSAL_IFOB: u32 = 10;
+
+pub const REFUSAL_SLOTS: u32 = 11;
+
+pub const REFUSAL_COUNT: u32 = 12;
+
+pub const REFUSAL_LAYER: u32 = 13;
+
+// Ends included; NaN is within no range.
+fn within(lo: f32, hi: f32, x: f32) -> bool
+    ensures { λ r. ⌜ r ≡ meant.within lo hi x ⌝ }
+{
+    (lo <= x) & (x <= hi)
+}
+
+pub fn k_within(k: usize) -> bool
+    ensures { λ r. ⌜ r ≡ kWithin k ⌝ }
+{
+    k <= 4
+}
+
+pub fn nang_within(nang: usize) -> bool
+    ensures { λ r. ⌜ r ≡ nangWithin nang ⌝ }
+{
+    nang <= 40
+}
+
+pub fn freq_within(freq: f32) -> bool
+    ensures { λ r. ⌜ r ≡ freqWithin freq ⌝ }
+{
+    within(2.0, 30.0, freq)
+}
+
+pub fn amind_within(amind: f32) -> bool
+    ensures { λ r. ⌜ r ≡ amindWithin amind ⌝ }
+{
+    within(0.0, 90.0, amind)
+}
+
+pub fn ghop_within(ghop: f32) -> bool
+    ensures { λ r. ⌜ r ≡ ghopWithin ghop ⌝ }
+{
+    within(0.0, 4.0, ghop)
+}
+
+// Of the point that the job names; its first number may be anything.
+pub fn fi_within(second: f32, third: f32) -> bool
+    ensures { λ r. ⌜ r ≡ fiWithin second third ⌝ }
+{
+    within(0.0, 100.0, second) & within(0.1, 100.0, third)
+}
+
+pub fn fvert_within(fvert: f32) -> bool
+    ensures { λ r. ⌜ r ≡ fvertWithin fvert ⌝ }
+{
+    within(0.0, 100.0, fvert)
+}
+
+pub fn hprim_within(hprim: f32) -> bool
+    ensures { λ r. ⌜ r ≡ hprimWithin hprim ⌝ }
+{
+    within(0.0, 10000.0, hprim)
+}
+
+pub fn htrue_within(htrue: f32) -> bool
+    ensures { λ r. ⌜ r ≡ htrueWithin htrue ⌝ }
+{
+    within(0.0, 2000.0, htrue)
+}
+
+pub fn afac_within(afac: f32) -> bool
+    ensures { λ r. ⌜ r ≡ afacWithin afac ⌝ }
+{
+    within(-1000000.0, 1000000.0, afac)
+}
+
+pub fn ifob_within(entry: i32) -> bool
+    ensures { λ r. ⌜ r ≡ ifobWithin entry ⌝ }
+{
+    (0 <= entry) & (entry <= 99999)
+}
+
+pub fn slots_within(ist: usize, lst: usize) -> bool
+    ensures { λ r. ⌜ r ≡ slotsWithin ist lst ⌝ }
+{
+    (1 <= ist) & (lst <= 7)
+}
+
+// The sum is made only of small numbers, so that no count, however large, overflows it.
+pub fn count_within(before: usize, added: usize) -> bool
+    ensures { λ r. ⌜ r ≡ countWithin before added ⌝ }
+{
+    if before > 20 {
+        return false;
+    }
+    if added > 20 {
+        return false;
+    }
+    before + added <= 20
+}
+
+pub fn layer_within(layer: usize) -> bool
+    ensures { λ r. ⌜ r ≡ layerWithin layer ⌝ }
+{
+    (1 <= layer) & (layer <= 4)
+}

@@ -1,0 +1,49 @@
+-- One theorem over the table of cases, by a test that computes, and what it says of each row. Assumes nothing.
+use mathlib.Core.Path.{_≡_, refl, ap, _∙_}
+use mathlib.Core.Bool.{Bool, true, false, _&&_}
+use mathlib.Core.List.{List, [], _∷_}
+use Prim.Native.Nat.{ℕ, zero, suc, _<_}
+use native.Mathlib.Nat.{le-of-suc-le-suc, not-suc-le-zero}
+use lib.Dec.{T, eqb, eqb→eq}
+use lib.Ieee.Fits.{and-l, and-r}
+use lib.ListN.{length, getD}
+use lib.Ieee.{toBits, ofBits, add, sub, mul, div, lt, le, eq}
+use Rattle.arith.specs.Floats.{absOf, minOf, maxOf}
+use Rattle.fnorml.specs.Fnorml.{tailOf, sizeOf, fnormlOf}
+use Rattle.sigdis.specs.Prbmuf.{spreadOf, sideOf, chanceOf, prbmufOf}
+use Rattle.worked_cases.specs.Cases.{Case, cases, expected, given}
+
+-- two lists of words are equal
+unfoldable pub same : List ℕ → List ℕ → Bool
+same [] [] = true
+same [] (b ∷ ys) = false
+same (a ∷ xs) [] = false
+same (a ∷ xs) (b ∷ ys) = eqb a b && same xs ys
+
+same-equal : (xs ys : List ℕ) → T (same xs ys) → xs ≡ ys
+unfolding same
+same-equal [] [] t = refl
+same-equal [] (b ∷ ys) t = absurd t
+same-equal (a ∷ xs) [] t = absurd t
+same-equal (a ∷ xs) (b ∷ ys) t =
+    ap (λ (x : ℕ). x ∷ xs) (eqb→eq a b (and-l (eqb a b) (same xs ys) t))
+    ∙ ap (λ (zs : List ℕ). b ∷ zs) (same-equal xs ys (and-r (eqb a b) (same xs ys) t))
+
+-- each case of a list gives what is expected
+unfoldable pub every : List Case → Bool
+every [] = true
+every (c ∷ cs) = same (given c) (expected c) && every cs
+
+pub every-case : T (every cases)
+unfolding every same cases given expected fnormlOf tailOf sizeOf prbmufOf chanceOf sideOf spreadOf absOf minOf maxOf toBits ofBits add sub mul div lt le eq
+every-case = tt
+
+at : (cs : List Case) (d : Case) (k : ℕ) → T (every cs) → k < length cs → given (getD cs k d) ≡ expected (getD cs k d)
+unfolding every
+at [] d k t h = absurd (not-suc-le-zero h)
+at (c ∷ cs) d zero t h = same-equal (given c) (expected c) (and-l (same (given c) (expected c)) (every cs) t)
+at (c ∷ cs) d (suc k) t h = at cs d k (and-r (same (given c) (expected c)) (every cs) t) (le-of-suc-le-suc h)
+
+-- row k of the table, counted from 0
+pub case-holds : (d : Case) (k : ℕ) → k < length cases → given (getD cases k d) ≡ expected (getD cases k d)
+case-holds d k = at cases d k every-case
