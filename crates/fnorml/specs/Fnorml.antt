@@ -1,4 +1,4 @@
--- The normal curve (modes.rs, lines 585 to 597): Abramowitz and Stegun 26.2.18 up to 5.
+-- The normal curve (modes.rs, lines 585 to 596): Abramowitz and Stegun 26.2.18 up to 5.
 use mathlib.Core.Bool.{cond}
 use lib.Ieee.{Float, lt}
 use Rattle.arith.specs.Floats.{f32, _⊕_, _⊖_, _⊗_, _⊘_, absOf, minOf}
@@ -28,16 +28,16 @@ abbrev pub 1·0 : Float
 abbrev pub 5·0 : Float
 5·0 = f32 0x40a0_0000
 
--- lines 588 to 590 (sigdis.rs, lines 70 to 72): the part of the curve beyond x, 1/2 (1 + c1 x + c2 x² + c3 x³ + c4 x⁴)⁻⁴
+-- lines 588 to 590 (sigdis.rs, lines 71 to 73): the part of the curve beyond x, 1/2 (1 + c1 x + c2 x² + c3 x³ + c4 x⁴)⁻⁴
 unfoldable pub tailOf : Float → Float
 tailOf x =
     let q = 1·0 ⊕ x ⊗ (c1 ⊕ x ⊗ (c2 ⊕ x ⊗ (c3 ⊕ x ⊗ c4))) in
     0·5 ⊗ (1·0 ⊘ (q ⊗ q ⊗ q ⊗ q))
 
--- line 587 (sigdis.rs, line 69): the size of the argument, clamped at 5; a NaN's is 5
+-- line 587 (sigdis.rs, line 70): the size of the argument, clamped at 5; a NaN's is 5
 unfoldable pub sizeOf : Float → Float
 sizeOf y = minOf (absOf y) 5·0
 
--- the curve up to ypx
+-- lines 591 to 595: the curve up to ypx
 unfoldable pub fnormlOf : Float → Float
 fnormlOf ypx = cond (lt ypx 0·0) (tailOf (sizeOf ypx)) (1·0 ⊖ tailOf (sizeOf ypx))

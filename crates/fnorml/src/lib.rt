@@ -1,4 +1,4 @@
-// Translated from hfcast-engine (commit bf34e8f9f3), src/voacap/modes.rs lines 584 to 597, and changed.
+// Translated from hfcast-engine (commit bf34e8f9f3), src/voacap/modes.rs lines 584 to 596, and changed.
 ghost use mathlib.Core.Path.{_≡_};
 ghost use Rattle.fnorml.specs.Fnorml.{tailOf, sizeOf, fnormlOf};
 

@@ -14,15 +14,15 @@ use Rattle.sigdis.specs.declared.Probability.the-variants.{Value, Refuse
 abbrev pub 0·001 : Float
 0·001 = f32 0x3a83_126f
 
--- lines 62 to 67
+-- lines 62 to 68
 unfoldable pub spreadOf : LayerMuf → Float → Float → Float → Float
 spreadOf layer z fgo fset = maxOf (cond (le z 0·0) (fgo ⊗ layer .sigl ⊘ fset) (fgo ⊗ layer .sigu ⊘ fset)) 0·001
 
--- lines 69 to 78
+-- lines 70 to 78
 unfoldable pub sideOf : Float → Float
 sideOf z = cond (lt z 0·0) (1·0 ⊖ tailOf (sizeOf z)) (tailOf (sizeOf z))
 
--- lines 58 to 61, 68
+-- lines 58 to 61, 69
 unfoldable pub chanceOf : LayerMuf → Float → Float → Float → Float
 chanceOf layer fmhz fgo fset =
     let z = fmhz ⊖ fgo in

@@ -1,0 +1,69 @@
+//! Finds the library under test, and makes the oracle out of the Rust source.
+
+use std::path::{Path, PathBuf};
+use std::{env, fs};
+
+#[path = "oracle/sha256.rs"]
+mod sha256;
+#[path = "oracle/slices.rs"]
+mod slices;
+
+fn main() {
+    println!("cargo:rerun-if-changed=build.rs");
+    println!("cargo:rerun-if-changed=oracle");
+    link_library();
+    make_oracle();
+}
+
+/// The directory that `variable` names, else `default` beside Cargo.toml.
+fn directory(variable: &str, default: &str) -> PathBuf {
+    println!("cargo:rerun-if-env-changed={variable}");
+    let here = Path::new(env!("CARGO_MANIFEST_DIR"));
+    here.join(env::var_os(variable).unwrap_or_else(|| default.into()))
+}
+
+fn link_library() {
+    let directory = directory("RAY_LIB_DIR", "../target/staticlib");
+    let library = directory.join("libtest_entries.a");
+    assert!(
+        library.is_file(),
+        "{} is missing: build it with `rt staticlib test_entries`, or set RAY_LIB_DIR",
+        library.display()
+    );
+    println!("cargo:rerun-if-changed={}", library.display());
+    println!("cargo:rustc-link-search=native={}", directory.display());
+    println!("cargo:rustc-link-lib=static=test_entries");
+}
+
+/// Writes three files: the items that call no angle function, and the others as they come and
+/// led to the library. Sets cfg(oracle). Where the source is not at hand the oracle is left
+/// out, but not in CI.
+fn make_oracle() {
+    println!("cargo:rerun-if-env-changed=CI");
+    let source = directory("HFCAST_SRC", "../../shared/docs/src");
+    if !source.is_dir() {
+        let missing = format!("the Rust source is not at hand: no {}", source.display());
+        assert!(env::var_os("CI").is_none(), "{missing}; set HFCAST_SRC");
+        println!("cargo:warning={missing}; the tests against it are skipped");
+        return;
+    }
+    let (mut once, mut as_it_comes, mut led) = (String::new(), String::new(), String::new());
+    for slice in slices::parse(include_str!("oracle/slices.txt")) {
+        let file = source.join(slice.file);
+        println!("cargo:rerun-if-changed={}", file.display());
+        let text = fs::read_to_string(&file).unwrap_or_else(|e| panic!("{}: {e}", file.display()));
+        let text = slice.cut(&text).unwrap_or_else(|e| panic!("{e}"));
+        let led_text = slice.lead(&text).unwrap_or_else(|e| panic!("{e}"));
+        if slice.has_angle_calls() {
+            as_it_comes += &text;
+            led += &led_text;
+        } else {
+            once += &text;
+        }
+    }
+    let out = PathBuf::from(env::var_os("OUT_DIR").unwrap());
+    for (name, text) in [("once.rs", once), ("as_it_comes.rs", as_it_comes), ("led.rs", led)] {
+        fs::write(out.join(name), text).unwrap();
+    }
+    println!("cargo:rustc-cfg=oracle");
+}

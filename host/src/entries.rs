@@ -1,0 +1,126 @@
+//! The library's C entry points: the one place that knows their form.
+
+/// What `prbmuf` reads of an hour: the deciles of the layers E, F1, F2 and Es.
+#[repr(C)]
+#[derive(Clone, Copy)]
+pub struct MufHour {
+    pub sigl: [f32; 4],
+    pub sigu: [f32; 4],
+}
+
+/// Defines a record of columns, in the field order of the Rust's record of the same name, and
+/// the way from one to the other. It has no padding and takes any bits, so that it can be
+/// filled with words and compared by them.
+macro_rules! record {
+    (
+        $(#[$meta:meta])*
+        $name:ident, columns of $n:literal: $($($column:ident)+: $type:ty),+;
+        counts: $($count:ident)*
+    ) => {
+        $(#[$meta])*
+        #[repr(C)]
+        #[derive(Clone, Copy)]
+        pub struct $name {
+            $($(pub $column: [$type; $n],)+)+
+            $(pub $count: usize,)*
+        }
+
+        impl $name {
+            pub const WORDS: usize = {
+                let columns = [$($(stringify!($column)),+),+].len();
+                let counts: &[&str] = &[$(stringify!($count)),*];
+                $n * columns + counts.len() * size_of::<usize>() / 4
+            };
+
+            pub fn from_words(words: [u32; Self::WORDS]) -> Self {
+                // Sound: of one size (else it does not compile), and any bits will do.
+                unsafe { std::mem::transmute(words) }
+            }
+
+            pub fn words(&self) -> [u32; Self::WORDS] {
+                // Sound: of one size (else it does not compile), so there is no padding.
+                unsafe { std::mem::transmute(*self) }
+            }
+        }
+
+        #[cfg(oracle)]
+        impl From<$name> for crate::oracle::$name {
+            fn from(ours: $name) -> Self {
+                Self { $($($column: ours.$column,)+)+ $($count: ours.$count,)* }
+            }
+        }
+
+        #[cfg(oracle)]
+        impl From<crate::oracle::$name> for $name {
+            fn from(rust: crate::oracle::$name) -> Self {
+                Self { $($($column: rust.$column,)+)+ $($count: rust.$count,)* }
+            }
+        }
+    };
+}
+
+record! {
+    /// The seven mode slots of one hop.
+    Zon, columns of 7:
+        abps crel eff fldst grlos hn hp prob rely rgain sigpow sn spro tgain timed tloss b fslos
+        adv obf: f32,
+        nmode: i32,
+        tllow tlhgh: f32;
+    counts:
+}
+
+record! {
+    /// The mode list of one frequency.
+    AllModes, columns of 20:
+        abps crel fldst hn hp prob rely rgain sigpow sn spro tgain timed tloss b fslos grlos adv
+        obf: f32,
+        nmode: i32,
+        tllow tlhgh eff: f32;
+    counts: nrel nmmod
+}
+
+// Safe to call: the functions take any numbers, and of the memory lent they read and write the
+// record alone, during the call alone.
+unsafe extern "C" {
+    #[link_name = "ray_sqrt"]
+    pub safe fn sqrt(x: f32) -> f32;
+
+    #[link_name = "ray_fnorml"]
+    pub safe fn fnorml(ypx: f32) -> f32;
+
+    /// 0 with the probability in `out`, or 13 with `out` as it was.
+    #[link_name = "ray_prbmuf"]
+    pub safe fn prbmuf(
+        hour: &MufHour,
+        fmhz: f32,
+        fgo: f32,
+        fset: f32,
+        il: usize,
+        out: &mut f32,
+    ) -> u32;
+
+    /// 0, or 11 or 12 with the list as it was.
+    #[link_name = "ray_accumulate"]
+    pub safe fn accumulate(m: &mut AllModes, zon: &Zon, ist: usize, lst: usize) -> u32;
+
+    #[link_name = "ray_reset"]
+    pub safe fn reset(m: &mut AllModes);
+}
+
+#[cfg(feature = "angles")]
+unsafe extern "C" {
+    #[link_name = "ray_sin"]
+    pub safe fn sin(x: f32) -> f32;
+
+    #[link_name = "ray_cos"]
+    pub safe fn cos(x: f32) -> f32;
+
+    #[link_name = "ray_asin"]
+    pub safe fn asin(x: f32) -> f32;
+
+    #[link_name = "ray_acos"]
+    pub safe fn acos(x: f32) -> f32;
+
+    #[link_name = "ray_atan"]
+    pub safe fn atan(x: f32) -> f32;
+}

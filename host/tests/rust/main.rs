@@ -1,0 +1,15 @@
+//! The library against the Rust. Without its source nothing here can run.
+
+#[cfg(oracle)]
+mod allmodes;
+#[cfg(oracle)]
+mod fnorml;
+#[cfg(oracle)]
+mod prbmuf;
+#[cfg(oracle)]
+mod worked_cases;
+
+#[cfg(not(oracle))]
+#[test]
+#[ignore = "the Rust source is not at hand: set HFCAST_SRC"]
+fn the_library_against_the_rust() {}
