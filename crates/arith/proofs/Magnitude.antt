@@ -6,10 +6,9 @@ use native.Mathlib.Nat.{mul-pos, zero-lt-suc}
 use native.Mathlib.Omega.{arith}
 use lib.IntN.{ℤ, pos, negsuc}
 use lib.Pow.{pow-lt}
-use lib.Dec.{eqb}
 use lib.Ieee.{Float, nan, inf, fin, up, down, binary32, ofBits, neg, lt, eq, fits}
 use lib.Ieee.Fits.{up-pos}
-use borrow.Author.Tests.{ltb-true, ltb-false, lt-ltb, le-ltb, eqb-true, eq-eqb, ne-eqb}
+use borrow.Author.Tests.{ltb-false, le-ltb, eqb-true, eq-eqb, ne-eqb}
 use Rattle.arith.specs.Floats.{f32, absOf}
 use Rattle.arith.specs.Order.{no}
 

@@ -1,7 +1,7 @@
 -- The vocabulary of every definition: f32 arithmetic as IEEE 754 has it, each operation rounded once, the constants of document 01 by their bits, and `abs`, `min`, `max`.
 use Prim.Native.Nat.{ℕ}
-use mathlib.Core.Bool.{Bool, true, false, cond}
-use lib.Ieee.{Float, nan, inf, fin, binary32, ofBits, lt, le, eq}
+use mathlib.Core.Bool.{false, cond}
+use lib.Ieee.{Float, nan, inf, fin, binary32, ofBits, lt, eq}
 use lib.Ieee as Ieee
 
 infixl 40 _⊕_ _⊖_

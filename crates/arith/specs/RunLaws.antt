@@ -3,7 +3,7 @@
 use mathlib.Core.Path.{_≡_, refl, sym, ap, _∙_}
 use Prim.Native.Nat.{ℕ, zero, suc, _+_, _≤_, _<_}
 use native.Mathlib.Omega.{arith}
-use native.Mathlib.Nat.{le-refl, suc-add, add-assoc, zero-add}
+use native.Mathlib.Nat.{le-refl, suc-add, zero-add}
 use Rattle.arith.specs.Run.{Next, more, done, onward, rest, then, run, steps, count}
 
 -- ---- the invariant of a loop whose turn is the step f: the run from the state at hand, with fuel for its measure k, answers r
