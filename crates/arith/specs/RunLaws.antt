@@ -80,10 +80,6 @@ module _ {S R : Type 0} (f : S → Next S R) (P : S → Type 0) (m : S → ℕ) 
 
 -- ---- steps add up: m + n steps are n steps after m
 module _ {S R : Type 0} (f : S → Next S R) where
-  then-then : (n : ℕ) (g : S → Next S R) (x : Next S R) → then (λ t. then (steps f n) (g t)) x ≡ then (steps f n) (then g x)
-  then-then n g (more s) = refl
-  then-then n g (done r) = refl
-
   add-on : (m n : ℕ) (g : (s : S) → steps f (m + n) s ≡ then (steps f n) (steps f m s)) (x : Next S R)
       → then (steps f (m + n)) x ≡ then (steps f n) (then (steps f m) x)
   add-on m n g (more s) = g s

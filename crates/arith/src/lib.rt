@@ -1,6 +1,15 @@
-// The methods of Rust's f32 that the source uses, written out.
+// The constants of the source, and the methods of Rust's f32 that it uses, written out.
 ghost use mathlib.Core.Path.{_≡_};
 ghost use Rattle.arith.specs.Floats.{absOf, minOf, maxOf};
+
+// The Earth's radius in km, degrees to radians and back, a right angle (document 01, "Constants").
+pub const RZ: f32 = 6370.0;
+
+pub const D2R: f32 = 0.01745329251;
+
+pub const R2D: f32 = 57.295779513;
+
+pub const PIO2: f32 = 1.570796326;
 
 // x.abs()
 pub fn abs(x: f32) -> f32
