@@ -1,11 +1,19 @@
 // C entries for the test host alone: what the product's own library has no entry for.
 ghost use mathlib.Core.Path.{_≡_};
+ghost use Rattle.root.specs.Root.{sqrtOf};
 ghost use Rattle.fnorml.specs.Fnorml.{fnormlOf};
 ghost use Rattle.sigdis.specs.Prbmuf.{prbmufOf, refusalOf, leftOf};
 ghost use Rattle.test_entries.specs.Entries.{hourOf};
 use sigdis::LayerMuf;
 use sigdis::MufHour;
 use sigdis::Probability;
+
+#[no_mangle]
+pub extern "C" fn ray_sqrt(x: f32) -> f32
+    ensures { λ r. ⌜ r ≡ sqrtOf x ⌝ }
+{
+    root::sqrt(x)
+}
 
 #[no_mangle]
 pub extern "C" fn ray_fnorml(ypx: f32) -> f32
