@@ -4,14 +4,12 @@ use mathlib.Core.Bool.{Bool, _&&_}
 use lib.Dec.{leb}
 use lib.IntN.{ℤ, pos}
 use lib.Signed.{leZ}
-use lib.Ieee.{Float, binary32, ofBits, neg, le}
+use lib.Ieee.{Float, neg, le}
+use Rattle.arith.specs.Floats.{f32}
 
 -- from lo to hi; "NaN never is within", and −0 lies within a range that starts at 0
 unfoldable pub within : Float → Float → Float → Bool
 within lo hi x = le lo x && le x hi
-
-abbrev f32 : ℕ → Float
-f32 = ofBits binary32
 
 -- 3. "k, a point counted from 0, is above 4."
 abbrev pub refusalK : ℕ

@@ -1,16 +1,18 @@
--- What the ranges of whole numbers come to, for callers that go on inside them. Assumes nothing.
-use mathlib.Core.Path.{_≡_, refl}
-use mathlib.Core.Bool.{Bool, true, false, _&&_}
+-- What a passed test of whole numbers tells, for callers that go on inside the range. Assumes nothing.
 use Prim.Native.Nat.{ℕ, _≤_}
-use native.Mathlib.Omega.{arith}
-use lib.Dec.{leb}
+use mathlib.Core.Path.{_≡_}
+use mathlib.Core.Bool.{true, _&&_, and-eq-true-iff}
 use borrow.Author.Tests.{leb-true}
-use Rattle.limits.specs.Limits.{layerWithin}
+use lib.Dec.{leb}
+use Rattle.limits.specs.Limits.{slotsWithin, layerWithin}
 
--- both tests of a range passed
-pub both : (s t : Bool) → (s && t) ≡ true → (s ≡ true) × (t ≡ true)
-both true t e = (refl, e)
-both false t e = let z : _≡_ {A = ℕ} 0 1 = cc in absurd (omega arith)
+both : (a b c d : ℕ) → (leb a b && leb c d) ≡ true → (a ≤ b) × (c ≤ d)
+both a b c d e =
+    let t = and-eq-true-iff (leb a b) (leb c d) .0 e in
+    (leb-true a b (t .0), leb-true c d (t .1))
 
-pub layer-bounds : (il : ℕ) → layerWithin il ≡ true → (1 ≤ il) × (il ≤ 4)
-layer-bounds il e = let b = both (leb 1 il) (leb il 4) e in (leb-true 1 il (b .0), leb-true il 4 (b .1))
+pub slots-within : (ist lst : ℕ) → slotsWithin ist lst ≡ true → (1 ≤ ist) × (lst ≤ 7)
+slots-within ist lst = both 1 ist lst 7
+
+pub layer-within : (layer : ℕ) → layerWithin layer ≡ true → (1 ≤ layer) × (layer ≤ 4)
+layer-within layer = both 1 layer layer 4

@@ -3,7 +3,10 @@ ghost use mathlib.Core.Path.{_≡_};
 ghost use Rattle.root.specs.Root.{sqrtOf};
 ghost use Rattle.fnorml.specs.Fnorml.{fnormlOf};
 ghost use Rattle.sigdis.specs.Prbmuf.{prbmufOf, refusalOf, leftOf};
+ghost use Rattle.allmodes.specs.AllModes.{resetOf, accumulateOf};
 ghost use Rattle.test_entries.specs.Entries.{hourOf};
+use allmodes::AllModes;
+use allmodes::Zon;
 use sigdis::LayerMuf;
 use sigdis::MufHour;
 use sigdis::Probability;
@@ -63,4 +66,21 @@ pub extern "C" fn ray_prbmuf(
         }
         Probability::Refused => limits::REFUSAL_LAYER,
     }
+}
+
+#[no_mangle]
+pub extern "C" fn ray_reset(m: &mut AllModes)
+    ensures { λ _. ⌜ now (m .exit) ≡ resetOf (now (m .entry)) ⌝ }
+{
+    *m = allmodes::reset(*m);
+}
+
+#[no_mangle]
+pub extern "C" fn ray_accumulate(m: &mut AllModes, zon: &Zon, ist: usize, lst: usize) -> u32
+    ensures { λ r. ⌜ (r ≡ accumulateOf (now (m .entry)) (now (zon .entry)) ist lst .refusal)
+        × (now (m .exit) ≡ accumulateOf (now (m .entry)) (now (zon .entry)) ist lst .modes) ⌝ }
+{
+    let a = allmodes::accumulate(*m, *zon, ist, lst);
+    *m = a.modes;
+    a.refusal
 }

@@ -1,7 +1,7 @@
 use borrow.Author.Needs.{needs}
 use mathlib.Core.Path.{sym, _∙_}
 use native.Mathlib.Omega.{arith}
-use Rattle.limits.specs.LimitsLaws.{layer-bounds}
+use Rattle.limits.specs.LimitsLaws.{layer-within}
 use Rattle.sigdis.specs.Prbmuf.{prbmufOf}
 use Rattle.sigdis.proofs.prbmuf.Statement.{statement}
 use Rattle.sigdis.proofs.prbmuf.Tie as tie
@@ -10,13 +10,13 @@ layer-within-requires : tie.Need-layer-within-requires
 layer-within-requires c κs = search needs
 
 sub-layer : tie.Need-sub-layer
-sub-layer c = omega (arith, layer-bounds (c .before .before .args .il) (sym (c .before .layer-within .ensures) ∙ c .if1 .taken))
+sub-layer c = omega (arith, layer-within (c .before .before .args .il) (sym (c .before .layer-within .ensures) ∙ c .if1 .taken))
 
 mul-layer : tie.Need-mul-layer
-mul-layer c = omega (arith, layer-bounds (c .before .before .args .il) (sym (c .before .layer-within .ensures) ∙ c .if1 .taken))
+mul-layer c = omega (arith, layer-within (c .before .before .args .il) (sym (c .before .layer-within .ensures) ∙ c .if1 .taken))
 
 element-copy-out-layer : tie.Need-element-copy-out-layer
-element-copy-out-layer c = omega (arith, layer-bounds (c .before .before .args .il) (sym (c .before .layer-within .ensures) ∙ c .if1 .taken))
+element-copy-out-layer c = omega (arith, layer-within (c .before .before .args .il) (sym (c .before .layer-within .ensures) ∙ c .if1 .taken))
 
 chance-requires : tie.Need-chance-requires
 chance-requires c κs = search needs
