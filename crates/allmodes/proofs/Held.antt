@@ -1,6 +1,6 @@
--- The slots that a loop from i to `to` has still before it, by what slot i is.
+-- The slots that a loop from i to `to` has still before it, by what slot i is; and what a turn that adds a slot makes of the list.
 use Prim.Native.Nat.{ℕ, suc, _+_, _-_, _≤_, _<_}
-use mathlib.Core.Path.{_≡_, refl, ap, _∙_}
+use mathlib.Core.Path.{_≡_}
 use mathlib.Core.Bool.{true, false}
 use mathlib.Core.List.{List, [], _∷_}
 use native.Mathlib.Numerals.{add-one}

@@ -5,6 +5,7 @@ ghost use Rattle.limits.specs.Limits.{fvertWithin, hprimWithin, htrueWit
 ghost use Rattle.limits.specs.Limits.{slotsWithin, countWithin, layerWithin};
 ghost use Rattle.limits.specs.Limits as meant;
 
+// The numbers of the refusals; those of the definitions have the same names.
 pub const REFUSAL_K: u32 = 3;
 
 pub const REFUSAL_NANG: u32 = 4;

@@ -24,6 +24,7 @@ loop-holds c = (search needs, refl)
 next-place-requires : tie.Need-next-place-requires Inv-loop μ-loop
 next-place-requires c κs = omega (arith, rw (held-one _ (c .before .before .loop-test .taken) (c .if1 .taken)) at (c .before .before .before .loop .inv .0))
 
+-- `s` is where the place was found, before the 22 stores
 loop-again : tie.Need-loop-again Inv-loop μ-loop
 unfolding putReals
 loop-again c =
