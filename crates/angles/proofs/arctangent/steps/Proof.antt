@@ -1,0 +1,54 @@
+-- `angles::arctangent::steps` meets its contract, whatever the guess. Assumes nothing.
+use borrow.Author.Needs.{needs}
+use mathlib.Core.Path.{subst}
+use Prim.Native.Nat.{ℕ, _/_, _%_, _≤_}
+use native.Mathlib.Omega.{arith}
+use Rattle.angles.specs.LeastLaws.{Agrees}
+use Rattle.angles.specs.Arctangent.{atanHigh, atanSteps}
+use Rattle.angles.specs.ArctangentGuess.{atan-tiny, guessed-steps}
+use Rattle.angles.proofs.arctangent.steps.Statement.{statement}
+use Rattle.angles.proofs.arctangent.steps.Tie as tie
+
+cast-j : tie.Need-cast-j
+cast-j c = search needs
+
+cast-e : tie.Need-cast-e
+cast-e c = search needs
+
+tangent-sides-requires : tie.Need-tangent-sides-requires
+tangent-sides-requires c κs = search needs
+
+slack-requires : tie.Need-slack-requires
+slack-requires c κs = search needs
+
+agrees-requires : tie.Need-agrees-requires
+agrees-requires c κs = search needs
+
+add-result : tie.Need-add-result
+add-result c = search needs
+
+search-requires : tie.Need-search-requires
+search-requires c κs = search needs
+
+returns : tie.Need-returns
+returns c = atan-tiny (c .before .args .t) (c .if1 .taken)
+
+returns-2 : tie.Need-returns-2
+returns-2 c =
+    let g = c .before in
+    let s = g .before .before in
+    let a = s .before .before .args in
+    let q = g .before .slack .result in
+    guessed-steps (a .t) q (a .h / 256) (a .h / 128 % 2) (s .before .before .pre) (bit (a .h)) (g .before .slack .ensures .1)
+    (subst (λ (l : ℕ). Agrees l (atanHigh (a .t) (a .h / 256)) q (a .h / 128 % 2)) (s .tangent-sides .ensures .0 .0)
+    (subst (λ (u : ℕ). Agrees (s .tangent-sides .result .low) u q (a .h / 128 % 2)) (s .tangent-sides .ensures .0 .1) (g .agrees .ensures (c .if2 .taken))))
+  where
+    bit : (h : ℕ) → h / 128 % 2 ≤ 1
+    bit h = omega arith
+
+returns-3 : tie.Need-returns-3
+unfolding atanSteps
+returns-3 c = c .search .ensures
+
+pub steps-spec : {M : Type 1} → statement M
+steps-spec = tie.close (tie.spec cast-j cast-e tangent-sides-requires slack-requires agrees-requires add-result search-requires returns returns-2 returns-3)

@@ -1,0 +1,38 @@
+use Rattle.angles.specs.Series.{fixed}
+use borrow.Author.Needs.{needs}
+use Rattle.angles.proofs.series.sin_minus.Statement.{statement}
+use Rattle.angles.proofs.series.sin_minus.Tie as tie
+
+term-requires : tie.Need-term-requires
+term-requires c κs = search needs
+
+term-requires-2 : tie.Need-term-requires-2
+term-requires-2 c κs = search needs
+
+term-requires-3 : tie.Need-term-requires-3
+term-requires-3 c κs = search needs
+
+term-requires-4 : tie.Need-term-requires-4
+term-requires-4 c κs = search needs
+
+term-requires-5 : tie.Need-term-requires-5
+term-requires-5 c κs = search needs
+
+high-product-requires : tie.Need-high-product-requires
+high-product-requires c κs = search needs
+
+returns : tie.Need-returns
+unfolding fixed
+returns c = cc
+
+pub sin-minus-spec : {M : Type 1} → statement M
+sin-minus-spec =
+    tie.close
+    (tie.spec
+    term-requires
+    term-requires-2
+    term-requires-3
+    term-requires-4
+    term-requires-5
+    high-product-requires
+    returns)

@@ -1,0 +1,87 @@
+// The arccosine.
+ghost use mathlib.Core.Path.{_≡_};
+ghost use mathlib.Core.Bool.{true, false, not};
+ghost use lib.Dec.{T};
+ghost use lib.Ieee.{isNan};
+ghost use Prim.Native.Nat.{ℕ, _^_, _≤_};
+ghost use Rattle.angles.specs.LeastLaws.{Steep};
+ghost use Rattle.angles.specs.Arccosine.{acosTop, acosLow, acosHigh, acosSteps, acosOf};
+use super::grid::in_steps;
+use super::grid::magnitude;
+use super::grid::units;
+use super::guess::arc;
+use super::guess::in_256ths;
+use super::search::Arc;
+use super::search::agrees;
+use super::search::cosine_sides;
+use super::search::search;
+
+// What the test's sides part by at the least, from j - 1 to j + 1, at an argument not below 0; 0 where no line says it.
+fn near_slack(j: u64) -> u64
+    ensures { λ r. ⌜ (r ≤ 2 ^ 40) × ((t : ℕ) → Steep (acosLow false t) (acosHigh false t) acosTop r j) ⌝ }
+{
+    if j == 0 {
+        0
+    } else if j > 6588998 {
+        0
+    } else {
+        5120 * (j - 1)
+    }
+}
+
+// The same at an argument below 0.
+fn far_slack(j: u64) -> u64
+    ensures { λ r. ⌜ (r ≤ 2 ^ 40) × ((t : ℕ) → Steep (acosLow true t) (acosHigh true t) acosTop r j) ⌝ }
+{
+    if j < 6588251 {
+        0
+    } else if j > 13175442 {
+        0
+    } else {
+        5120 * (13176793 - j)
+    }
+}
+
+fn slack(neg: bool, j: u64) -> u64
+    ensures { λ r. ⌜ (r ≤ 2 ^ 40) × ((t : ℕ) → Steep (acosLow neg t) (acosHigh neg t) acosTop r j) ⌝ }
+{
+    if neg { far_slack(j) } else { near_slack(j) }
+}
+
+// The arccosine of t * 2^-57, negated where neg is true, in steps of 2^-22. The guess h, in 256ths of a step, says where to look first.
+fn steps(neg: bool, t: u64, h: u32) -> u64
+    requires { ⌜ t ≤ 2 ^ 57 ⌝ }
+    ensures { λ r. ⌜ r ≡ acosSteps neg t ⌝ }
+{
+    let j = (h / 256) as u64;
+    let e = (h / 128 % 2) as u64;
+    let s = cosine_sides(neg, j, t);
+    if agrees(s, slack(neg, j), e) {
+        j + e
+    } else {
+        search(Arc::Cosine(neg), t)
+    }
+}
+
+fn guess(neg: bool, a: f32) -> u32
+    requires { ⌜ T (not (isNan a)) ⌝ }
+{
+    let g = arc(a);
+    if neg {
+        in_256ths(13176794.6333222841 - g)
+    } else {
+        in_256ths(g)
+    }
+}
+
+pub(crate) fn acos(x: f32) -> f32
+    ensures { λ r. ⌜ r ≡ acosOf x ⌝ }
+{
+    let a = magnitude(x);
+    if a <= 1.0 {
+        let neg = x < 0.0;
+        in_steps(steps(neg, units(a), guess(neg, a)), false)
+    } else {
+        0.0 / 0.0
+    }
+}

@@ -1,0 +1,96 @@
+// The arctangent.
+ghost use mathlib.Core.Path.{_≡_};
+ghost use mathlib.Core.Bool.{not};
+ghost use lib.Dec.{T};
+ghost use lib.Ieee.{isNan};
+ghost use Prim.Native.Nat.{_-_, _^_, _≤_};
+ghost use Rattle.angles.specs.Grid.{cutAt};
+ghost use Rattle.angles.specs.Units.{Scalable};
+ghost use Rattle.angles.specs.LeastLaws.{Steep};
+ghost use Rattle.angles.specs.Arctangent.{atanTop, atanLow, atanHigh, atanSteps, clamped, atanOf};
+use super::grid::in_steps;
+use super::grid::magnitude;
+use super::guess::in_256ths;
+use super::guess::small_arc;
+use super::search::Arc;
+use super::search::agrees;
+use super::search::search;
+use super::search::tangent_sides;
+use super::series::high_product;
+
+// 2^23 where a magnitude is more.
+fn clamp(a: f32) -> f32
+    ensures { λ r. ⌜ r ≡ clamped a ⌝ }
+{
+    if a < 8388608.0 { a } else { 8388608.0 }
+}
+
+// a * 2^40, cut.
+fn units(a: f32) -> u64
+    requires { ⌜ Scalable 40 (2 ^ 23) a ⌝ }
+    ensures { λ r. ⌜ (r ≡ cutAt 40 a) × (r ≤ 2 ^ 63) ⌝ }
+{
+    std::num::truncating_f32_to_u64(a * 1099511627776.0)
+}
+
+fn minus(a: u64, b: u64) -> u64
+    ensures { λ r. ⌜ r ≡ a - b ⌝ }
+{
+    if b < a { a - b } else { 0 }
+}
+
+// What the test's sides part by at the least, from j - 1 to j + 1: by the sine's rise and by the cosine's fall, less what the evaluation can have lost; 0 where no line says it.
+fn slack(t: u64, j: u64) -> u64
+    requires { ⌜ t ≤ 2 ^ 63 ⌝ }
+    ensures { λ r. ⌜ (r ≤ 2 ^ 60) × Steep (atanLow t) (atanHigh t) atanTop r j ⌝ }
+{
+    if j > 6588396 {
+        0
+    } else {
+        let rise = minus(6586998, j);
+        let fall = high_product(t, minus(j, 1) * 16777216);
+        minus(5120 * (rise + fall) / 16777216, 64)
+    }
+}
+
+// The arctangent of t * 2^-40, in steps of 2^-22. The guess h, in 256ths of a step, says where to look first.
+fn steps(t: u64, h: u32) -> u64
+    requires { ⌜ t ≤ 2 ^ 63 ⌝ }
+    ensures { λ r. ⌜ r ≡ atanSteps t ⌝ }
+{
+    if t <= 131072 {
+        0
+    } else {
+        let j = (h / 256) as u64;
+        let e = (h / 128 % 2) as u64;
+        let s = tangent_sides(j, t);
+        if agrees(s, slack(t, j), e) {
+            j + e
+        } else {
+            search(Arc::Tangent, t)
+        }
+    }
+}
+
+fn guess(a: f32) -> u32
+    requires { ⌜ T (not (isNan a)) ⌝ }
+{
+    let w = a as f64;
+    if w > 1.0 {
+        in_256ths(6588397.31666114207 - small_arc(1.0 / w))
+    } else {
+        in_256ths(small_arc(w))
+    }
+}
+
+pub(crate) fn atan(x: f32) -> f32
+    ensures { λ r. ⌜ r ≡ atanOf x ⌝ }
+{
+    let a = magnitude(x);
+    if a >= 0.0 {
+        let c = clamp(a);
+        in_steps(steps(units(c), guess(c)), x < 0.0)
+    } else {
+        0.0 / 0.0
+    }
+}

@@ -1,0 +1,41 @@
+// The product's library: the C entry points that document 01 names, and no others.
+ghost use mathlib.Core.Path.{_≡_};
+ghost use Rattle.angles.specs.SinCos.{sinOf, cosOf};
+ghost use Rattle.angles.specs.Arcsine.{asinOf};
+ghost use Rattle.angles.specs.Arccosine.{acosOf};
+ghost use Rattle.angles.specs.Arctangent.{atanOf};
+
+#[no_mangle]
+pub extern "C" fn ray_sin(x: f32) -> f32
+    ensures { λ r. ⌜ r ≡ sinOf x ⌝ }
+{
+    angles::sin(x)
+}
+
+#[no_mangle]
+pub extern "C" fn ray_cos(x: f32) -> f32
+    ensures { λ r. ⌜ r ≡ cosOf x ⌝ }
+{
+    angles::cos(x)
+}
+
+#[no_mangle]
+pub extern "C" fn ray_asin(x: f32) -> f32
+    ensures { λ r. ⌜ r ≡ asinOf x ⌝ }
+{
+    angles::asin(x)
+}
+
+#[no_mangle]
+pub extern "C" fn ray_acos(x: f32) -> f32
+    ensures { λ r. ⌜ r ≡ acosOf x ⌝ }
+{
+    angles::acos(x)
+}
+
+#[no_mangle]
+pub extern "C" fn ray_atan(x: f32) -> f32
+    ensures { λ r. ⌜ r ≡ atanOf x ⌝ }
+{
+    angles::atan(x)
+}
