@@ -1,4 +1,4 @@
-//! Finds the library under test, and makes the oracle out of the Rust source.
+//! Finds the libraries under test, and makes the oracle out of the Rust source.
 
 use std::path::{Path, PathBuf};
 use std::{env, fs};
@@ -11,7 +11,7 @@ mod slices;
 fn main() {
     println!("cargo:rerun-if-changed=build.rs");
     println!("cargo:rerun-if-changed=oracle");
-    link_library();
+    link_libraries();
     make_oracle();
 }
 
@@ -22,17 +22,21 @@ fn directory(variable: &str, default: &str) -> PathBuf {
     here.join(env::var_os(variable).unwrap_or_else(|| default.into()))
 }
 
-fn link_library() {
+/// The angle functions come with the product's own library, the other entries with the one that
+/// serves tests alone.
+fn link_libraries() {
     let directory = directory("RAY_LIB_DIR", "../target/staticlib");
-    let library = directory.join("libtest_entries.a");
-    assert!(
-        library.is_file(),
-        "{} is missing: build it with `rt staticlib test_entries`, or set RAY_LIB_DIR",
-        library.display()
-    );
-    println!("cargo:rerun-if-changed={}", library.display());
     println!("cargo:rustc-link-search=native={}", directory.display());
-    println!("cargo:rustc-link-lib=static=test_entries");
+    for name in ["raycore", "test_entries"] {
+        let library = directory.join(format!("lib{name}.a"));
+        assert!(
+            library.is_file(),
+            "{} is missing: build it with `rt staticlib {name}`, or set RAY_LIB_DIR",
+            library.display()
+        );
+        println!("cargo:rerun-if-changed={}", library.display());
+        println!("cargo:rustc-link-lib=static={name}");
+    }
 }
 
 /// Writes three files: the items that call no angle function, and the others as they come and

@@ -105,10 +105,7 @@ unsafe extern "C" {
 
     #[link_name = "ray_reset"]
     pub safe fn reset(m: &mut AllModes);
-}
 
-#[cfg(feature = "angles")]
-unsafe extern "C" {
     #[link_name = "ray_sin"]
     pub safe fn sin(x: f32) -> f32;
 

@@ -14,3 +14,8 @@ pub fn edges() -> Vec<f32> {
     let both_signs = patterns.flat_map(|p| [p, p | 0x8000_0000]);
     both_signs.map(f32::from_bits).collect()
 }
+
+/// The patterns up to `reach` to each side of `middle`, so far as there are any.
+pub fn window(middle: u32, reach: u32) -> std::ops::RangeInclusive<u32> {
+    middle.saturating_sub(reach)..=middle.saturating_add(reach)
+}

@@ -64,7 +64,6 @@ pub mod as_it_comes {
 }
 
 /// penang, findf and fdist with their angle calls led to the library under test.
-#[cfg(feature = "angles")]
 pub mod led {
     use super::*;
     use crate::entries;

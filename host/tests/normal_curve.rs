@@ -7,7 +7,7 @@ use host::floats;
 use host::prng::Prng;
 
 /// 1, c1 to c4, times a million.
-const C: [u32; 5] = [1_000_000, 196_854, 115_194, 344, 19_527];
+const C: [u128; 5] = [1_000_000, 196_854, 115_194, 344, 19_527];
 
 /// Distances are in units of 2^-40, rounded up.
 const BITS: u32 = 40;

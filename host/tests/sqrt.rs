@@ -15,9 +15,10 @@ fn check(patterns: impl IntoIterator<Item = u32>) {
     }
 }
 
-/// 2^20 patterns with `middle` in the middle, so far as there are any.
-fn window(middle: u32) -> std::ops::Range<u32> {
-    middle.saturating_sub(1 << 19)..middle.saturating_add(1 << 19)
+/// Checks 2^19 patterns to each side of `middle`, so far as there are any.
+#[track_caller]
+fn check_about(middle: u32) {
+    check(floats::window(middle, 1 << 19));
 }
 
 #[test]
@@ -39,23 +40,23 @@ fn of_negative_numbers_and_nans_is_nan() {
 
 #[test]
 fn around_zero() {
-    check(window(0));
-    check(window(0x8000_0000));
+    check_about(0);
+    check_about(0x8000_0000);
 }
 
 #[test]
 fn around_the_least_normal() {
-    check(window(f32::MIN_POSITIVE.to_bits()));
+    check_about(f32::MIN_POSITIVE.to_bits());
 }
 
 #[test]
 fn around_one() {
-    check(window(1.0f32.to_bits()));
+    check_about(1.0f32.to_bits());
 }
 
 #[test]
 fn around_the_largest() {
-    check(window(f32::MAX.to_bits()));
+    check_about(f32::MAX.to_bits());
 }
 
 #[test]

@@ -1,6 +1,7 @@
 //! Nanoseconds a call, the library beside the Rust: the least of several rounds. The library's
 //! functions are called, while the compiler may have put the Rust's in line.
 
+use host::angles::FUNCTIONS;
 use host::entries;
 use host::prng::Prng;
 use std::hint::black_box;
@@ -27,38 +28,49 @@ fn apart(inputs: &[f32], f: impl Fn(f32) -> f32) -> f64 {
     })
 }
 
-/// Calls each of which waits for the answer of the one before.
+/// Calls each of which waits for the answer of the one before: a product and a sum more.
 fn in_turn(inputs: &[f32], f: impl Fn(f32) -> f32) -> f64 {
     let mut last = 0.0;
-    time(|i| last = black_box(f(inputs[i] + last)))
+    time(|i| last = black_box(f(inputs[i] + 0.0 * last)))
 }
 
 fn print(name: &str, ours: f64, rust: f64) {
-    println!("{name:<22} {ours:7.1} ns   Rust {rust:7.1} ns");
+    let ratio = ours / rust;
+    println!("{name:<22} {ours:7.1} ns   Rust {rust:7.1} ns   ratio {ratio:5.2}");
+}
+
+/// Both ways, over arguments from `low` to `high`.
+fn compare(
+    name: &str,
+    ours: impl Fn(f32) -> f32,
+    rust: impl Fn(f32) -> f32,
+    [low, high]: [f32; 2],
+) {
+    let mut prng = Prng::new(1);
+    let inputs: Vec<f32> = (0..INPUTS).map(|_| prng.within(low, high)).collect();
+    print(&format!("{name}, apart"), apart(&inputs, &ours), apart(&inputs, &rust));
+    print(&format!("{name}, in turn"), in_turn(&inputs, &ours), in_turn(&inputs, &rust));
 }
 
 fn main() {
-    let mut prng = Prng::new(1);
-    let inputs: Vec<f32> = (0..INPUTS).map(|_| prng.within(0.0, 100.0)).collect();
-    print("sqrt, apart", apart(&inputs, |x| entries::sqrt(x)), apart(&inputs, f32::sqrt));
-    print("sqrt, in turn", in_turn(&inputs, |x| entries::sqrt(x)), in_turn(&inputs, f32::sqrt));
+    compare("sqrt", |x| entries::sqrt(x), f32::sqrt, [0.0, 100.0]);
+    for f in &FUNCTIONS {
+        compare(f.name, f.ours, f.rust, [-f.spread(), f.spread()]);
+    }
     #[cfg(oracle)]
-    beside_the_rust(&mut prng);
+    beside_the_rust();
     #[cfg(not(oracle))]
     println!("the Rust source is not at hand: set HFCAST_SRC for the others");
 }
 
 #[cfg(oracle)]
-fn beside_the_rust(prng: &mut Prng) {
+fn beside_the_rust() {
     use host::entries::{AllModes, MufHour, Zon};
     use host::oracle;
 
-    let inputs: Vec<f32> = (0..INPUTS).map(|_| prng.within(-6.0, 6.0)).collect();
-    let ours = apart(&inputs, |x| entries::fnorml(x));
-    print("fnorml, apart", ours, apart(&inputs, oracle::fnorml));
-    let ours = in_turn(&inputs, |x| entries::fnorml(x));
-    print("fnorml, in turn", ours, in_turn(&inputs, oracle::fnorml));
+    compare("fnorml", |x| entries::fnorml(x), oracle::fnorml, [-6.0, 6.0]);
 
+    let mut prng = Prng::new(1);
     let frequencies: Vec<[f32; 2]> =
         (0..INPUTS).map(|_| [prng.within(2.0, 30.0), prng.within(2.0, 30.0)]).collect();
     let hour = MufHour { sigl: [0.5, 1.0, 2.0, 3.0], sigu: [0.6, 1.1, 2.1, 3.1] };

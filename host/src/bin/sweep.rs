@@ -1,6 +1,7 @@
-//! Sweeps over all 2^32 f32, for when minutes do not matter.
+//! Checks for when minutes do not matter: sweeps over all 2^32 f32, and the exact bounds.
 
-use host::{entries, floats};
+use host::angles::{named, Function, FUNCTIONS};
+use host::{bounds, entries, floats};
 use std::ops::RangeInclusive;
 use std::process::ExitCode;
 use std::thread;
@@ -35,35 +36,81 @@ fn compare(ours: impl Fn(f32) -> f32 + Sync, expected: impl Fn(f32) -> f32 + Syn
     ExitCode::from(u8::from(count > 0))
 }
 
-/// The greatest distance of fnorml from Abramowitz and Stegun 26.2.18, in f64 arithmetic (which
-/// is some 2^-50 off), over all arguments of size up to 5.
+/// The greatest distance, and where it is.
+fn greatest(distance: impl Fn(f32) -> f64 + Sync) -> f64 {
+    let found = shared(|share| {
+        let distances = share.map(f32::from_bits).map(|x| (distance(x), x));
+        distances.fold((0.0, 0.0), |greatest, d| if d.0 > greatest.0 { d } else { greatest })
+    });
+    let (greatest, x) = found.into_iter().max_by(|a, b| a.0.total_cmp(&b.0)).unwrap();
+    println!("greatest distance {greatest:.6e} at {x:?} ({:08x})", x.to_bits());
+    greatest
+}
+
+/// The distance of fnorml from Abramowitz and Stegun 26.2.18, in f64 arithmetic (which is some
+/// 2^-50 off), over all arguments of size up to 5.
 fn normal_curve() -> ExitCode {
-    let distance = |x: f32| {
+    greatest(|x| {
+        if !(-5.0..=5.0).contains(&x) {
+            return 0.0;
+        }
         let y = f64::from(x.abs());
         let sum = 1.0 + y * (0.196854 + y * (0.115194 + y * (0.000344 + y * 0.019527)));
         let tail = 0.5 / sum.powi(4);
         let expected = if x < 0.0 { tail } else { 1.0 - tail };
         (f64::from(entries::fnorml(x)) - expected).abs()
-    };
-    let found = shared(|share| {
-        let arguments = share.map(f32::from_bits).filter(|x| x.abs() <= 5.0);
-        let distances = arguments.map(|x| (distance(x), x));
-        distances.fold((0.0, 0.0), |greatest, d| if d.0 > greatest.0 { d } else { greatest })
     });
-    let (greatest, x) = found.into_iter().max_by(|a, b| a.0.total_cmp(&b.0)).unwrap();
-    println!("greatest distance {greatest:.6e} at {x:?} ({:08x})", x.to_bits());
     ExitCode::SUCCESS
 }
 
+/// In steps of 2^-22: more than f64's functions and the series of 13 terms can be off. Up to 4 the
+/// series are within 2^-36 of the functions, and the angles at which they reach an argument
+/// within 2^-33 of the arcs, but for 1 and -1 of asin and acos, which the tests check exactly.
+const MARGIN: f64 = 1.0 / 256.0;
+
+/// The distance in steps of an angle function from f64's, over all arguments: it must not be above
+/// the promised one less the margin.
+fn angle(f: &Function) -> ExitCode {
+    let distance = |x: f32| {
+        let answer = (f.ours)(x);
+        match (x.abs() <= f.limit, answer.is_nan()) {
+            (true, false) => (f64::from(answer) - (f.in_f64)(x.into())).abs() * f64::from(1 << 22),
+            (false, true) => 0.0,
+            _ => f64::INFINITY,
+        }
+    };
+    let promised = (f.promised)() as f64 / bounds::STEP as f64;
+    println!("{}, promised {promised} steps less {MARGIN}", f.name);
+    ExitCode::from(u8::from(greatest(distance) > promised - MARGIN))
+}
+
+/// The exact checks of document 01's bounds, over more arguments than the tests have.
+fn exact() -> ExitCode {
+    thread::scope(|scope| {
+        for f in &FUNCTIONS {
+            scope.spawn(|| f.check_bound(f.arguments(1 << 12, 1_000_000)));
+        }
+    });
+    ExitCode::SUCCESS
+}
+
+const USAGE: &str = "usage: sweep sqrt | fnorml (needs the Rust source) | normal-curve
+             sin | cos | asin | acos | atan | page FUNCTION | exact";
+
 fn main() -> ExitCode {
     let start = Instant::now();
-    let exit = match std::env::args().nth(1).as_deref() {
-        Some("sqrt") => compare(|x| entries::sqrt(x), f32::sqrt),
+    let words: Vec<String> = std::env::args().skip(1).collect();
+    let words: Vec<&str> = words.iter().map(String::as_str).collect();
+    let exit = match (&words[..], words.last().and_then(|name| named(name))) {
+        (["sqrt"], _) => compare(|x| entries::sqrt(x), f32::sqrt),
         #[cfg(oracle)]
-        Some("fnorml") => compare(|x| entries::fnorml(x), host::oracle::fnorml),
-        Some("normal-curve") => normal_curve(),
+        (["fnorml"], _) => compare(|x| entries::fnorml(x), host::oracle::fnorml),
+        (["normal-curve"], _) => normal_curve(),
+        ([_], Some(f)) => angle(f),
+        (["page", _], Some(f)) => compare(f.ours, f.page),
+        (["exact"], _) => exact(),
         _ => {
-            eprintln!("usage: sweep sqrt | fnorml (needs the Rust source) | normal-curve");
+            eprintln!("{USAGE}");
             return ExitCode::from(2);
         }
     };

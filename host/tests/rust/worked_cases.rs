@@ -1,6 +1,6 @@
 //! Document 01's worked cases of findf and fdist, on the oracle itself.
 
-use host::oracle::{as_it_comes, AreaTables, HopModes, IonoState, Numerics, Reflectrix, R};
+use host::oracle::{as_it_comes, led, AreaTables, HopModes, IonoState, Numerics, Reflectrix, R};
 
 type Findf = fn(&mut Reflectrix, &IonoState, &AreaTables, usize, R, R, usize);
 type Fdist = fn(&mut HopModes, &Reflectrix, R, R, R);
@@ -61,9 +61,8 @@ fn the_rust_as_it_comes_gives_the_worked_cases() {
     check_fdist(as_it_comes::fdist);
 }
 
-#[cfg(feature = "angles")]
 #[test]
 fn the_led_rust_gives_the_worked_cases() {
-    check_findf(host::oracle::led::findf);
-    check_fdist(host::oracle::led::fdist);
+    check_findf(led::findf);
+    check_fdist(led::fdist);
 }

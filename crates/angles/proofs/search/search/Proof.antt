@@ -26,10 +26,7 @@ loop-holds : tie.Need-loop-holds Inv-loop μ-loop
 loop-holds c = subst (λ (hi : ℕ). Between (holdsOf (c .before .args .arc) (c .before .args .t)) (topOf (c .before .args .arc)) 0 hi) (sym (c .top .ensures)) (between-all (holdsOf (c .before .args .arc) (c .before .args .t)) (topOf (c .before .args .arc)))
 
 add-mid : tie.Need-add-mid Inv-loop μ-loop
-add-mid c = let l = c .before .loop in record { fits = sum (l .lo) (l .hi) (topOf (c .before .before .before .args .arc)) (l .inv .0) (l .inv .1 .0) (top-le (c .before .before .before .args .arc)) }
-  where
-    sum : (lo hi top : ℕ) → lo ≤ hi → hi ≤ top → top ≤ 13176794 → lo + hi < 2 ^ 64
-    sum lo hi top h k l = omega arith
+add-mid c = let t = top-le (c .before .before .before .args .arc) in record { fits = omega arith }
 
 holds-requires : tie.Need-holds-requires Inv-loop μ-loop
 holds-requires c κs = let l = c .before .loop in (mid-in (l .lo) (l .hi) (topOf (c .before .before .before .args .arc)) (c .loop-test .taken) (l .inv .1 .0) (top-le (c .before .before .before .args .arc)), c .before .before .before .pre)
@@ -38,16 +35,11 @@ add-lo : tie.Need-add-lo Inv-loop μ-loop
 add-lo c =
     let l = c .before .before .before .loop in
     let a = c .before .before .before .before .before .args .arc in
-    record { fits = next ((l .lo + l .hi) / 2) (mid-in (l .lo) (l .hi) (topOf a) (c .before .before .loop-test .taken) (l .inv .1 .0) (top-le a)) }
-  where
-    next : (m : ℕ) → m < 2 ^ 24 → m + 1 < 2 ^ 64
-    next m h = omega arith
+    let m : (l .lo + l .hi) / 2 < 2 ^ 24 = mid-in (l .lo) (l .hi) (topOf a) (c .before .before .loop-test .taken) (l .inv .1 .0) (top-le a) in
+    record { fits = omega arith }
 
 loop-less : tie.Need-loop-less Inv-loop μ-loop
-loop-less c = let l = c .before .before .before .loop in nearer (l .lo) (l .hi) (c .before .before .loop-test .taken)
-  where
-    nearer : (lo hi : ℕ) → lo < hi → hi - ((lo + hi) / 2 + 1) < hi - lo
-    nearer lo hi h = omega arith
+loop-less c = omega arith
 
 loop-again : tie.Need-loop-again Inv-loop μ-loop
 loop-again c =
@@ -56,10 +48,7 @@ loop-again c =
     between-above (holdsOf (a .arc) (a .t)) (topOf (a .arc)) (l .lo) (l .hi) (c .before .before .loop-test .taken) (l .inv) (sym (c .before .holds .ensures) ∙ c .if1 .taken)
 
 loop-less-2 : tie.Need-loop-less-2 Inv-loop μ-loop
-loop-less-2 c = let l = c .before .before .before .loop in nearer (l .lo) (l .hi) (c .before .before .loop-test .taken)
-  where
-    nearer : (lo hi : ℕ) → lo < hi → (lo + hi) / 2 - lo < hi - lo
-    nearer lo hi h = omega arith
+loop-less-2 c = omega arith
 
 loop-again-2 : tie.Need-loop-again-2 Inv-loop μ-loop
 loop-again-2 c =
