@@ -14,7 +14,7 @@ use lib.Ieee.Exact.{HasValue, odd-sign}
 use lib.Ieee.Nearest.{div-same}
 use lib.Ieee.Scale.{finite}
 use borrow.Author.Tests.{ne-eqb}
-use Rattle.angles.specs.SinCos.{scaled}
+use Rattle.arith.specs.Floats.{scaled}
 
 -- ---- by the number's value
 scaled-value : (k : ℕ) (x : Float) (s : Bool) (a c : ℕ) → 0 < c → HasValue x s a c → scaled k x ≡ a * 2 ^ k / c

@@ -1,9 +1,10 @@
 -- The sine and the cosine of an f32: the recipe of docs/ANGLES.md. Assumes nothing.
 use mathlib.Core.Bool.{Bool, false, cond, not, _&&_}
-use Prim.Native.Nat.{ℕ, _-_, _*_, _/_, _^_}
+use Prim.Native.Nat.{ℕ, _-_, _/_, _^_}
 use lib.IntN.{pos, negsuc}
 use lib.Dec.{ltb}
-use lib.Ieee.{Float, nan, inf, fin, binary32, up, down, mul, neg, lt, le, ofInt}
+use lib.Ieee.{Float, nan, fin, binary32, mul, neg, lt, le, ofInt}
+use Rattle.arith.specs.Floats.{scaled}
 use Rattle.angles.specs.Series.{square, power, sinPlus, sinMinus, cosPlus, cosMinus}
 use Rattle.angles.specs.Grid.{zero32}
 
@@ -13,12 +14,6 @@ four32 = fin false 1 (pos 2)
 -- |x| ≤ w: false at NaN
 unfoldable pub within : Float → Float → Bool
 within w x = le (neg w) x && le x w
-
--- |x| · 2 ^ s, cut
-unfoldable pub scaled : ℕ → Float → ℕ
-scaled s nan = 0
-scaled s (inf t) = 0
-scaled s (fin t m e) = m * up e * 2 ^ s / down e
 
 -- d · 2 ^ -57, cut to 30 binary places and rounded to the nearest f32; negated where s is true
 unfoldable pub fromUnits : Bool → ℕ → Float

@@ -13,7 +13,8 @@ use lib.Ieee.Fits.{down-pos}
 use borrow.Author.Tests.{ltb-true, ltb-false, leb-true, lt-ltb, le-leb, lt-leb, eq-eqb, eqb-true}
 use Rattle.angles.specs.Series.{Near}
 use Rattle.angles.specs.Error.{over}
-use Rattle.angles.specs.SinCos.{four32, within, scaled}
+use Rattle.angles.specs.SinCos.{four32, within}
+use Rattle.arith.specs.Floats.{scaled}
 
 at-most : (y c : ℕ) (e : Bool) → (e ≡ true → y ≡ c) → (y ≡ c → e ≡ true) → (ltb y c || (e && true)) ≡ leb y c
 at-most y c e f g = go (ltb y c) refl e refl

@@ -13,7 +13,8 @@ use Rattle.angles.specs.Near.{plus-near, minus-near}
 use Rattle.angles.specs.CosNear.{cos-plus-near, cos-minus-near}
 use Rattle.angles.specs.Grid.{zero32}
 use Rattle.angles.specs.GridLaws.{mag-is}
-use Rattle.angles.specs.SinCos.{four32, within, scaled, difference, sinOf, cosOf}
+use Rattle.angles.specs.SinCos.{four32, within, difference, sinOf, cosOf}
+use Rattle.arith.specs.Floats.{scaled}
 use Rattle.angles.specs.SinCosAsked.{NearTo, NearSine, NearCosine, Asked}
 use Rattle.angles.specs.SinCosBounded.{sin-differ, cos-differ}
 use Rattle.angles.specs.SinCosArgument.{within-is, scaled-near, scaled-le}

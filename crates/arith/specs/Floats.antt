@@ -1,7 +1,7 @@
 -- The vocabulary of every definition: f32 arithmetic as IEEE 754 has it, each operation rounded once, the constants of document 01 by their bits, and `abs`, `min`, `max`.
-use Prim.Native.Nat.{ℕ}
+use Prim.Native.Nat.{ℕ, _*_, _/_, _^_}
 use mathlib.Core.Bool.{false, cond}
-use lib.Ieee.{Float, nan, inf, fin, binary32, ofBits, lt, eq}
+use lib.Ieee.{Float, nan, inf, fin, binary32, up, down, ofBits, lt, eq}
 use lib.Ieee as Ieee
 
 infixl 40 _⊕_ _⊖_
@@ -54,3 +54,9 @@ minOf a b = cond (lt b a) b (cond (eq a a) a b)
 
 unfoldable pub maxOf : Float → Float → Float
 maxOf a b = cond (lt a b) b (cond (eq a a) a b)
+
+-- the magnitude of x times 2 ^ j, cut to a whole number. An f32 is a whole number of smallest values, 2 ^ -149, so from j = 149 on nothing is cut
+unfoldable pub scaled : ℕ → Float → ℕ
+scaled j nan = 0
+scaled j (inf s) = 0
+scaled j (fin s m e) = m * up e * 2 ^ j / down e

@@ -2,7 +2,8 @@
 use mathlib.Core.Bool.{true, false, cond}
 use Prim.Native.Nat.{ℕ, zero, suc, _+_, _-_, _*_, _/_, _^_}
 use lib.Dec.{leb, ltb}
-use lib.Ieee.{Float, nan, inf, fin, binary32, up, down, size, units}
+use lib.Ieee.{Float, nan, inf, fin, binary32, size, units}
+use Rattle.arith.specs.Floats.{scaled}
 
 -- r + 1 where its square is within w, else r
 unfoldable pub oneMore : ℕ → ℕ → ℕ
@@ -18,12 +19,6 @@ wholeRoot (suc d) w = oneMore w (2 * wholeRoot d (w / 4))
 unfoldable pub nearestRoot : ℕ → ℕ
 unfolding wholeRoot
 nearestRoot w = let r = wholeRoot 24 w in cond (ltb (r * r + r) w) (r + 1) r
-
--- The magnitude of x times 2 ^ j, cut to a whole number. An f32 is a whole number of smallest values, 2 ^ -149, so from j = 149 on nothing is cut.
-unfoldable pub scaled : ℕ → Float → ℕ
-scaled j nan = 0
-scaled j (inf s) = 0
-scaled j (fin s m e) = m * up e * 2 ^ j / down e
 
 -- The root of n, to 24 digits, in smallest values. Of n / 4 ^ k, which has 47 or 48 digits, the root has 24; 2 ^ k times that is the root of n.
 unfoldable pub rootOf : ℕ → Float

@@ -13,7 +13,8 @@ use lib.Ieee.Positive.{positive, first-pos, positive-of-value, value-pos}
 use Rattle.root.specs.NearestRootLaws.{NearestRoot, nearest-root, root-range}
 use Rattle.root.specs.MidpointLaws.{square, root-over, root-under}
 use Rattle.root.specs.ScaledLaws.{spread, scaled-of-value, scaled-exact, scaled-below, units-fit, units-value, same-value}
-use Rattle.root.specs.Root.{nearestRoot, scaled, rootOf, sqrtOf}
+use Rattle.root.specs.Root.{nearestRoot, rootOf, sqrtOf}
+use Rattle.arith.specs.Floats.{scaled}
 
 -- r is the f32 nearest to the root of x, with no ties. Take any other f32 v, one of r's two neighbours for example. The root lies on r's side of the midpoint of v and r:
 -- ((v + r) / 2)² is below x where v is below r, and above x where v is above r. Magnitudes are counted in smallest values, 2 ^ -149, and x in their squares, so that nothing is cut.

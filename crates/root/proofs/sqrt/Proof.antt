@@ -15,7 +15,8 @@ use lib.Ieee.Digits.{size-le}
 use lib.Ieee.Exact.{HasValue}
 use lib.Ieee.Fits.{up-pos, kept-lt}
 use lib.Ieee.Positive.{positive, value-pos}
-use Rattle.root.specs.Root.{scaled, sqrtOf}
+use Rattle.root.specs.Root.{sqrtOf}
+use Rattle.arith.specs.Floats.{scaled}
 use Rattle.root.specs.ScaledLaws.{scaled-exact, scaled-below, bits-of}
 use Rattle.root.proofs.Floats.{number}
 use Rattle.root.proofs.sqrt.Statement.{statement}
