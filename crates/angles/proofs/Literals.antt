@@ -15,17 +15,9 @@ pub lit-1 : ofBits binary32 1065353216 ≡ one32
 unfolding ofBits ofFields odd trailingZeros
 lit-1 = refl
 
-pub lit-57 : ofBits binary32 1543503872 ≡ fin false 1 (pos 57)
-unfolding ofBits ofFields odd trailingZeros
-lit-57 = refl
-
 pub lit-23 : ofBits binary32 1258291200 ≡ fin false 1 (pos 23)
 unfolding ofBits ofFields odd trailingZeros
 lit-23 = refl
-
-pub lit-40 : ofBits binary32 1400897536 ≡ fin false 1 (pos 40)
-unfolding ofBits ofFields odd trailingZeros
-lit-40 = refl
 
 pub lit-22 : ofBits binary32 880803840 ≡ fin false 1 (negsuc 21)
 unfolding ofBits ofFields odd trailingZeros

@@ -2,10 +2,11 @@
 use mathlib.Core.Bool.{Bool, true, false, cond}
 use Prim.Native.Nat.{ℕ, _+_}
 use lib.Dec.{leb}
-use lib.Ieee.{Float, nan, lt, le}
+use lib.Ieee.{Float, nan, lt}
+use Rattle.arith.specs.Floats.{scaled}
 use Rattle.angles.specs.Series.{square, power, cosPlus, cosMinus}
 use Rattle.angles.specs.Least.{least}
-use Rattle.angles.specs.Grid.{half, mag, cutAt, inSteps, zero32, one32}
+use Rattle.angles.specs.Grid.{half, inSteps, zero32, one32, within}
 
 -- the half turn, in steps, cut
 abbrev pub acosTop : ℕ
@@ -35,4 +36,4 @@ acosSteps s t = least (above s t) acosTop
 
 -- no answer is negative, and 1 gives +0; -0 is as +0. Outside -1 to 1, and at NaN: NaN
 unfoldable pub acosOf : Float → Float
-acosOf x = let a = mag x in cond (le a one32) (inSteps false (acosSteps (lt x zero32) (cutAt 57 a))) nan
+acosOf x = cond (within one32 x) (inSteps false (acosSteps (lt x zero32) (scaled 57 x))) nan

@@ -1,5 +1,5 @@
 -- The arccosine is as asked, at every f32 and every width from 1 to 4 steps. Assumes nothing.
-use mathlib.Core.Path.{_≡_, refl, sym, ap, _∙_, subst}
+use mathlib.Core.Path.{_≡_, refl, sym, subst}
 use mathlib.Core.Bool.{Bool, true, false, cond}
 use mathlib.Core.Logic.{_⊎_, inl, inr}
 use Prim.Native.Nat.{ℕ, _+_, _*_, _^_, _-_, _≤_, _<_}
@@ -9,12 +9,14 @@ use native.Mathlib.Decide.{decLe}
 use borrow.Author.Tests.{leb-true, leb-false, le-leb}
 use lib.Dec.{T, leb, lit≤, lit<}
 use lib.IntN.{ℤ}
-use lib.Ieee.{Float, fin, binary32, up, down, fits, lt, le}
+use lib.Ieee.{Float, fin, binary32, up, down, fits, lt}
 use lib.Ieee.Exact.{HasValue}
+use Rattle.arith.specs.Floats.{scaled}
 use Rattle.angles.specs.Series.{sinUp, sinDown, cosDen}
 use Rattle.angles.specs.Steps.{sin-positive, sin-past}
-use Rattle.angles.specs.Grid.{mag, cutAt, inSteps, zero32, one32}
-use Rattle.angles.specs.GridLaws.{units-near, in-steps-value}
+use Rattle.angles.specs.Grid.{zero32, one32, within}
+use Rattle.angles.specs.GridLaws.{in-steps-value}
+use Rattle.angles.specs.Argument.{scaled-near}
 use Rattle.angles.specs.Arccosine.{acosSteps, acosOf}
 use Rattle.angles.specs.ArccosineLaws.{Bracket, acos-brackets, acos-steps-below, acos-inside, acos-outside}
 use Rattle.angles.specs.Bound.{Angle, raised, lowered, AtMost, AtLeast, cosAdded, cosTaken, SinePositive, Answer, UpToOne, ArccosineAsked}
@@ -79,18 +81,20 @@ either-asked w y a h = record {
   one-kept = h .one-kept;
 }
 
--- a magnitude of at most 1
-inside : (w : ℕ) → 1 ≤ w → w ≤ 4 → (x : Float) (m : ℕ) (e : ℤ) → mag x ≡ fin false m e → T (fits binary32 (fin false m e)) → le (fin false m e) one32 ≡ true → Answer (ArccosineAsked w (lt x zero32) (m * up e) (down e)) (acosOf x)
-inside w w1 w4 x m e q t l =
-    let s = lt x zero32 in
-    let k = acosSteps s (cutAt 57 (fin false m e)) in
-    let top = acos-steps-below s (cutAt 57 (fin false m e)) in
-    let u = units-near m e t l in
+-- a number of magnitude up to 1
+inside : (w : ℕ) → 1 ≤ w → w ≤ 4 → (s : Bool) (m : ℕ) (e : ℤ) → within one32 (fin s m e) ≡ true → Answer (ArccosineAsked w (lt (fin s m e) zero32) (m * up e) (down e)) (acosOf (fin s m e))
+inside w w1 w4 s m e q =
+    let x = fin s m e in
+    let t = lt x zero32 in
+    let n = scaled 57 x in
+    let k = acosSteps t n in
+    let top = acos-steps-below t n in
+    let u = scaled-near 57 s m e in
     record {
       angle = (false, k);
-      value = subst (λ (z : Float). HasValue z false k (2 ^ 22)) (ap (λ (a : Float). inSteps false (acosSteps s (cutAt 57 a))) (sym q) ∙ acos-inside x (ap (λ (a : Float). le a one32) q ∙ l)) (in-steps-value false k (lt-of-le-of-lt top (lit< tt)));
+      value = subst (λ (z : Float). HasValue z false k (2 ^ 22)) (acos-inside x q) (in-steps-value false k (lt-of-le-of-lt top (lit< tt)));
       in-range = ranged k top;
-      as-asked = bracket-asked w k (m * up e) (down e) s w1 w4 top (acos-brackets w s (cutAt 57 (fin false m e)) (m * up e) (down e) (u .0) (u .1));
+      as-asked = bracket-asked w k (m * up e) (down e) t w1 w4 top (acos-brackets w t n (m * up e) (down e) (u .0) (u .1));
     }
   where
     ranged : (k : ℕ) → k ≤ 13176794 → k ≤ 4 * 2 ^ 22
@@ -98,7 +102,7 @@ inside w w1 w4 x m e q t l =
 
 -- the theorem
 pub acos-meets : (w : ℕ) → 1 ≤ w → w ≤ 4 → (x : Float) → T (fits binary32 x) → UpToOne (ArccosineAsked w) x (acosOf x)
-acos-meets w w1 w4 = up-to-one-all (ArccosineAsked w) acosOf acos-outside (inside w w1 w4) (either-asked w)
+acos-meets w w1 w4 x t = up-to-one-all (ArccosineAsked w) (either-asked w) acosOf acos-outside (inside w w1 w4) x
 
 -- at the width that is promised
 pub acos-promise : (x : Float) → T (fits binary32 x) → UpToOne (ArccosineAsked halfWidth) x (acosOf x)

@@ -8,14 +8,15 @@ use native.Mathlib.Nat.{le-refl, le-trans, le-of-eq, add-le-add, mul-add, add-mu
 use native.Mathlib.Omega.{arith}
 use borrow.Author.Tests.{leb-true, leb-false}
 use lib.Dec.{lit≤, lit<}
-use lib.Ieee.{Float, nan, lt, le}
+use lib.Ieee.{Float, nan, lt}
+use Rattle.arith.specs.Floats.{scaled}
 use Rattle.angles.specs.Series.{Near, cosUp, cosDown, cosDen, sumOf}
 use Rattle.angles.specs.Near.{compared}
 use Rattle.angles.specs.CosNear.{cos-plus-near, cos-minus-near}
 use Rattle.angles.specs.Steps.{half-drops, least-drop, line-drops, line-drops-far, fall-unit}
 use Rattle.angles.specs.Brackets.{Brackets, brackets}
 use Rattle.angles.specs.LeastLaws.{Found, Falls, least-found, least-within, Part, part-falls, Steep, Agrees, guessed}
-use Rattle.angles.specs.Grid.{odd-half, half, mag, cutAt, inSteps, zero32, one32}
+use Rattle.angles.specs.Grid.{odd-half, half, inSteps, zero32, one32, within}
 use Rattle.angles.specs.GridLaws.{half-near}
 use Rattle.angles.specs.Bound.{AtMost, AtLeast}
 use Rattle.angles.specs.Arccosine.{acosTop, plusAt, minusAt, acosLow, acosHigh, above, acosSteps, acosOf}
@@ -378,10 +379,10 @@ unfolding acosSteps above
 acos-guessed s t q j e E g a = guessed (acosLow s t) (acosHigh s t) acosTop (acos-falls s t) q j e E g a
 
 -- ---- on f32
-pub acos-inside : (x : Float) → le (mag x) one32 ≡ true → inSteps false (acosSteps (lt x zero32) (cutAt 57 (mag x))) ≡ acosOf x
+pub acos-inside : (x : Float) → within one32 x ≡ true → inSteps false (acosSteps (lt x zero32) (scaled 57 x)) ≡ acosOf x
 unfolding acosOf
 acos-inside x e = rw e
 
-pub acos-outside : (x : Float) → le (mag x) one32 ≡ false → nan ≡ acosOf x
+pub acos-outside : (x : Float) → within one32 x ≡ false → nan ≡ acosOf x
 unfolding acosOf
 acos-outside x e = rw e

@@ -2,10 +2,11 @@
 use mathlib.Core.Bool.{Bool, cond}
 use Prim.Native.Nat.{ℕ, _+_}
 use lib.Dec.{leb}
-use lib.Ieee.{Float, nan, lt, le}
+use lib.Ieee.{Float, nan, lt}
+use Rattle.arith.specs.Floats.{scaled}
 use Rattle.angles.specs.Series.{sinPlus, sinMinus}
 use Rattle.angles.specs.Least.{least}
-use Rattle.angles.specs.Grid.{half, mag, cutAt, inSteps, zero32, one32}
+use Rattle.angles.specs.Grid.{half, inSteps, zero32, one32, within}
 
 -- the quarter turn, in steps, cut
 abbrev pub asinTop : ℕ
@@ -26,4 +27,4 @@ asinSteps t = least (below t) asinTop
 
 -- the sign is that of x; at -0 it is plus, and a negative x too small for a step gives -0. Outside -1 to 1, and at NaN: NaN
 unfoldable pub asinOf : Float → Float
-asinOf x = let a = mag x in cond (le a one32) (inSteps (lt x zero32) (asinSteps (cutAt 57 a))) nan
+asinOf x = cond (within one32 x) (inSteps (lt x zero32) (asinSteps (scaled 57 x))) nan

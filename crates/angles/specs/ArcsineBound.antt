@@ -1,5 +1,5 @@
 -- The arcsine is as asked, at every f32 and every width from 1 to 4 steps. Assumes nothing.
-use mathlib.Core.Path.{_≡_, refl, sym, ap, _∙_, subst}
+use mathlib.Core.Path.{_≡_, refl, subst}
 use mathlib.Core.Bool.{Bool, true, false, cond}
 use mathlib.Core.Logic.{inl, inr}
 use Prim.Native.Nat.{ℕ, _+_, _*_, _^_, _-_, _≤_}
@@ -9,11 +9,13 @@ use native.Mathlib.Decide.{decLe}
 use borrow.Author.Tests.{leb-true}
 use lib.Dec.{T, leb, lit≤, lit<}
 use lib.IntN.{ℤ}
-use lib.Ieee.{Float, fin, binary32, up, down, fits, lt, le}
+use lib.Ieee.{Float, fin, binary32, up, down, fits, lt}
 use lib.Ieee.Exact.{HasValue}
+use Rattle.arith.specs.Floats.{scaled}
 use Rattle.angles.specs.Series.{sinUp, sinDown, sinDen}
-use Rattle.angles.specs.Grid.{mag, cutAt, inSteps, zero32, one32}
-use Rattle.angles.specs.GridLaws.{units-near, in-steps-value}
+use Rattle.angles.specs.Grid.{zero32, one32, within}
+use Rattle.angles.specs.GridLaws.{in-steps-value}
+use Rattle.angles.specs.Argument.{scaled-near}
 use Rattle.angles.specs.Arcsine.{asinSteps, asinOf}
 use Rattle.angles.specs.ArcsineLaws.{Bracket, asin-brackets, asin-steps-below, not-below-0, asin-inside, asin-outside}
 use Rattle.angles.specs.Bound.{Angle, raised, lowered, InRange, AtMost, AtLeast, sinAdded, sinTaken, CosinePositive, Answer, UpToOne, ArcsineAsked}
@@ -59,18 +61,20 @@ either-asked w y a h = record {
   one-kept = h .one-kept;
 }
 
--- a magnitude of at most 1
-inside : (w : ℕ) → 1 ≤ w → w ≤ 4 → (x : Float) (m : ℕ) (e : ℤ) → mag x ≡ fin false m e → T (fits binary32 (fin false m e)) → le (fin false m e) one32 ≡ true → Answer (ArcsineAsked w (lt x zero32) (m * up e) (down e)) (asinOf x)
-inside w w1 w4 x m e q t l =
-    let s = lt x zero32 in
-    let k = asinSteps (cutAt 57 (fin false m e)) in
-    let top = asin-steps-below (cutAt 57 (fin false m e)) in
-    let u = units-near m e t l in
+-- a number of magnitude up to 1
+inside : (w : ℕ) → 1 ≤ w → w ≤ 4 → (s : Bool) (m : ℕ) (e : ℤ) → within one32 (fin s m e) ≡ true → Answer (ArcsineAsked w (lt (fin s m e) zero32) (m * up e) (down e)) (asinOf (fin s m e))
+inside w w1 w4 s m e q =
+    let x = fin s m e in
+    let t = lt x zero32 in
+    let n = scaled 57 x in
+    let k = asinSteps n in
+    let top = asin-steps-below n in
+    let u = scaled-near 57 s m e in
     record {
-      angle = (s, k);
-      value = subst (λ (z : Float). HasValue z s k (2 ^ 22)) (ap (λ (a : Float). inSteps s (asinSteps (cutAt 57 a))) (sym q) ∙ asin-inside x (ap (λ (a : Float). le a one32) q ∙ l)) (in-steps-value s k (lt-of-le-of-lt top (lit< tt)));
-      in-range = ranged s k top;
-      as-asked = bracket-asked w k (m * up e) (down e) w1 w4 top (asin-brackets w (cutAt 57 (fin false m e)) (m * up e) (down e) (u .0) (u .1)) s;
+      angle = (t, k);
+      value = subst (λ (z : Float). HasValue z t k (2 ^ 22)) (asin-inside x q) (in-steps-value t k (lt-of-le-of-lt top (lit< tt)));
+      in-range = ranged t k top;
+      as-asked = bracket-asked w k (m * up e) (down e) w1 w4 top (asin-brackets w n (m * up e) (down e) (u .0) (u .1)) t;
     }
   where
     ranged : (s : Bool) (k : ℕ) → k ≤ 6588397 → InRange (s, k)
@@ -79,7 +83,7 @@ inside w w1 w4 x m e q t l =
 
 -- the theorem
 pub asin-meets : (w : ℕ) → 1 ≤ w → w ≤ 4 → (x : Float) → T (fits binary32 x) → UpToOne (ArcsineAsked w) x (asinOf x)
-asin-meets w w1 w4 = up-to-one-all (ArcsineAsked w) asinOf asin-outside (inside w w1 w4) (either-asked w)
+asin-meets w w1 w4 x t = up-to-one-all (ArcsineAsked w) (either-asked w) asinOf asin-outside (inside w w1 w4) x
 
 -- at the width that is promised
 pub asin-promise : (x : Float) → T (fits binary32 x) → UpToOne (ArcsineAsked halfWidth) x (asinOf x)

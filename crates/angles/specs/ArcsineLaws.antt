@@ -9,13 +9,14 @@ use native.Mathlib.Omega.{arith}
 use native.Mathlib.Decide.{decLe}
 use borrow.Author.Tests.{leb-true, leb-false, lt-leb}
 use lib.Dec.{lit≤, lit<}
-use lib.Ieee.{Float, nan, lt, le}
+use lib.Ieee.{Float, nan, lt}
+use Rattle.arith.specs.Floats.{scaled}
 use Rattle.angles.specs.Series.{sinUp, sinDown, sinDen, sinPlus, sinMinus, sumOf, fixed}
 use Rattle.angles.specs.Near.{plus-near, minus-near, compared}
 use Rattle.angles.specs.Steps.{half-rises, least-half, line-rises, line-unit}
 use Rattle.angles.specs.Brackets.{Brackets, brackets}
 use Rattle.angles.specs.LeastLaws.{Found, Falls, least-found, least-within, unique, Part, part-falls, Steep, Agrees, guessed}
-use Rattle.angles.specs.Grid.{odd-half, half, mag, cutAt, inSteps, zero32, one32}
+use Rattle.angles.specs.Grid.{odd-half, half, inSteps, zero32, one32, within}
 use Rattle.angles.specs.GridLaws.{half-near}
 use Rattle.angles.specs.Bound.{AtMost, AtLeast}
 use Rattle.angles.specs.Arcsine.{asinTop, asinLow, asinHigh, below, asinSteps, asinOf}
@@ -335,10 +336,10 @@ unfolding below asinSteps
 tiny t h = unique (below t) asinTop (asin-falls t) 0 (record { within = zero-le; holds-before = inl refl; fails-here = inr (lt-leb (asinLow 0) (asinHigh t 0) (tiny-at t h)) })
 
 -- ---- on f32
-pub asin-inside : (x : Float) → le (mag x) one32 ≡ true → inSteps (lt x zero32) (asinSteps (cutAt 57 (mag x))) ≡ asinOf x
+pub asin-inside : (x : Float) → within one32 x ≡ true → inSteps (lt x zero32) (asinSteps (scaled 57 x)) ≡ asinOf x
 unfolding asinOf
 asin-inside x e = rw e
 
-pub asin-outside : (x : Float) → le (mag x) one32 ≡ false → nan ≡ asinOf x
+pub asin-outside : (x : Float) → within one32 x ≡ false → nan ≡ asinOf x
 unfolding asinOf
 asin-outside x e = rw e

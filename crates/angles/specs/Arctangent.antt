@@ -4,8 +4,9 @@ use Prim.Native.Nat.{ℕ, _+_, _/_, _^_}
 use lib.IntN.{pos}
 use lib.Dec.{leb}
 use lib.Ieee.{Float, nan, fin, lt, isNan}
+use Rattle.arith.specs.Floats.{scaled}
 use Rattle.angles.specs.Series.{mh, square, power, sinPlus, sinMinus, cosPlus, cosMinus}
-use Rattle.angles.specs.Grid.{half, zero32, mag, cutAt, inSteps}
+use Rattle.angles.specs.Grid.{half, zero32, within, inSteps}
 use Rattle.angles.specs.Least.{least}
 
 -- ---- over whole numbers: the argument is t * 2 ^ -40, and the series are taken half a step above k steps of 2 ^ -22
@@ -33,10 +34,10 @@ atanSteps t = least (tanBelow t) atanTop
 abbrev pub limit : Float
 limit = fin false 1 (pos 23)
 
--- a magnitude, 2 ^ 23 where it is more
-unfoldable pub clamped : Float → Float
-clamped a = cond (lt a limit) a limit
+-- ⌊min(|x|, 2 ^ 23) · 2 ^ 40⌋, at the infinities too
+unfoldable pub atanUnits : Float → ℕ
+atanUnits x = cond (within limit x) (scaled 40 x) (2 ^ 63)
 
 -- "arctangent of any number, infinity included"; "NaN gives NaN". The sign is the argument's: 0 and -0 give 0, and a negative argument so small that no step is left gives -0
 unfoldable pub atanOf : Float → Float
-atanOf x = cond (isNan x) nan (inSteps (lt x zero32) (atanSteps (cutAt 40 (clamped (mag x)))))
+atanOf x = cond (isNan x) nan (inSteps (lt x zero32) (atanSteps (atanUnits x)))

@@ -1,25 +1,26 @@
 -- The arctangent's recipe meets the requirement at every f32, for every half-width from 1 to 4 steps. Assumes nothing.
-use mathlib.Core.Path.{_≡_, refl, sym, ap, _∙_, subst}
+use mathlib.Core.Path.{_≡_, refl, sym, _∙_, subst}
 use mathlib.Core.Bool.{Bool, true, false, cond}
 use mathlib.Core.Logic.{inl, inr}
-use Prim.Native.Nat.{ℕ, zero, suc, _+_, _*_, _^_, _-_, _≤_, _<_, zero-le}
-use native.Mathlib.Nat.{le-of-lt, lt-of-le-of-lt, add-le-add, mul-zero, zero-mul, mul-le-mul-right}
+use Prim.Native.Nat.{ℕ, _+_, _*_, _^_, _-_, _≤_, _<_}
+use native.Mathlib.Nat.{le-of-lt, lt-of-le-of-lt, add-le-add, mul-zero, mul-le-mul-right}
 use native.Mathlib.Omega.{arith}
 use native.Mathlib.Decide.{decLe}
-use borrow.Author.Tests.{leb-true}
+use borrow.Author.Tests.{leb-true, leb-false}
 use lib.IntN.{ℤ}
 use lib.Dec.{T, leb, lit≤, lit<}
-use lib.Ieee.{Float, nan, inf, fin, binary32, up, down, neg, lt, eq, isNan, fits}
+use lib.Ieee.{Float, nan, inf, fin, binary32, up, down, neg, lt, le, eq, isNan, fits}
 use lib.Ieee.Fits.{down-pos}
 use lib.Ieee.Exact.{HasValue}
-use Rattle.angles.specs.Series.{Near, sinDen, cosDen}
-use Rattle.angles.specs.ArctangentUnits.{atan-scales, atan-near, at-limit, below-limit, not-below-limit, zero-units}
+use Rattle.arith.specs.Floats.{scaled}
+use Rattle.angles.specs.Series.{sinDen, cosDen}
+use Rattle.angles.specs.Argument.{within-is, scaled-near, scaled-le}
 use Rattle.angles.specs.Steps.{cos-positive-half}
-use Rattle.angles.specs.Grid.{zero32, mag, cutAt, inSteps}
-use Rattle.angles.specs.GridLaws.{in-steps-value, mag-is, mag-0}
-use Rattle.angles.specs.Arctangent.{atanTop, atanSteps, limit, clamped, atanOf}
+use Rattle.angles.specs.Grid.{zero32, within}
+use Rattle.angles.specs.GridLaws.{in-steps-value}
+use Rattle.angles.specs.Arctangent.{atanTop, atanSteps, limit, atanUnits, atanOf}
 use Rattle.angles.specs.Bound.{Angle, raised, lowered, InRange, CosinePositive, TangentAtMost, TangentAtLeast, Answer, EveryNumber, ArctangentAsked}
-use Rattle.angles.specs.BoundLaws.{kept-towards, dropped}
+use Rattle.angles.specs.BoundLaws.{kept-towards, dropped, by-sign}
 use Rattle.angles.specs.Width.{halfWidth}
 use Rattle.angles.specs.TangentClimbs.{left, right}
 use Rattle.angles.specs.ArcsineLaws.{not-below-0}
@@ -62,32 +63,18 @@ module _ (w k x y : ℕ) (w1 : 1 ≤ w) (w4 : w ≤ 4) (k-top : k ≤ atanTop) (
 
 -- ---- the bracket of every magnitude
 
-magnitude-brackets : (w m : ℕ) (e : ℤ) → T (fits binary32 (fin false m e)) → Bracket w (m * up e) (down e) (atanSteps (cutAt 40 (clamped (fin false m e))))
-unfolding clamped
-magnitude-brackets w m e t = go (lt (fin false m e) limit) refl
+number-brackets : (w : ℕ) (s : Bool) (m : ℕ) (e : ℤ) → Bracket w (m * up e) (down e) (atanSteps (atanUnits (fin s m e)))
+unfolding atanUnits
+number-brackets w s m e = go (within limit (fin s m e)) refl
   where
-    go : (b : Bool) → lt (fin false m e) limit ≡ b → Bracket w (m * up e) (down e) (atanSteps (cutAt 40 (cond b (fin false m e) limit)))
-    go true q = let h = le-of-lt (below-limit m e q) in atan-brackets w (cutAt 40 (fin false m e)) (m * up e) (down e) (atan-scales m e t h .1) (atan-near m e t h) (down-pos e)
-    go false q = subst (λ (u : ℕ). Bracket w (m * up e) (down e) (atanSteps u)) (sym at-limit) (far-brackets w (m * up e) (down e) (not-below-limit m e q))
+    go : (b : Bool) → within limit (fin s m e) ≡ b → Bracket w (m * up e) (down e) (atanSteps (cond b (scaled 40 (fin s m e)) (2 ^ 63)))
+    go true q = atan-brackets w (scaled 40 (fin s m e)) (m * up e) (down e) (scaled-le 23 40 (fin s m e) q) (scaled-near 40 s m e) (down-pos e)
+    go false q = far-brackets w (m * up e) (down e) (le-of-lt (leb-false (m * up e) (2 ^ 23 * down e) (sym (within-is 23 s m e) ∙ q)))
 
-infinity-brackets : (w : ℕ) → Bracket w 1 0 (atanSteps (cutAt 40 (clamped (inf false))))
-unfolding clamped lt
-infinity-brackets w = subst (λ (u : ℕ). Bracket w 1 0 (atanSteps u)) (sym at-limit) (far-brackets w 1 0 (lit≤ tt))
-
-zero-brackets : (w : ℕ) (e : ℤ) → Bracket w 0 (down e) (atanSteps (cutAt 40 (clamped zero32)))
-zero-brackets w e = subst (λ (u : ℕ). Bracket w 0 (down e) (atanSteps u)) (sym zero-units) (atan-brackets w 0 0 (down e) zero-le (zero-near (down e)) (down-pos e))
-  where
-    zero-near : (d : ℕ) → Near (2 ^ 40) 0 d 0 1
-    zero-near d = (omega arith, omega arith)
-
--- the sign of a number is not asked of its fit
-finite : (s : Bool) (m : ℕ) (e : ℤ) → isNan (fin s m e) ≡ false
-unfolding isNan
-finite s m e = refl
-
-unsigned : (s : Bool) (m : ℕ) (e : ℤ) → T (fits binary32 (fin s (suc m) e)) → T (fits binary32 (fin false (suc m) e))
-unfolding fits
-unsigned s m e t = t
+infinity-brackets : (w : ℕ) (s : Bool) → Bracket w 1 0 (atanSteps (atanUnits (inf s)))
+unfolding atanUnits within le lt eq neg
+infinity-brackets w true = far-brackets w 1 0 (lit≤ tt)
+infinity-brackets w false = far-brackets w 1 0 (lit≤ tt)
 
 -- ---- every f32
 
@@ -99,49 +86,32 @@ at-least-0 : (a : Angle) (y : ℕ) → TangentAtLeast a false 0 y → TangentAtL
 at-least-0 a y h = simp mul-zero (simp mul-zero at h)
 
 module _ (w : ℕ) (w1 : 1 ≤ w) (w4 : w ≤ 4) where
-  either-asked : (s : Bool) (y : ℕ) (a : Angle) → ArctangentAsked w false 0 y a → ArctangentAsked w s 0 y a
-  either-asked false y a h = h
-  either-asked true y a h = record { at-lowered = λ c. at-most-0 (lowered w a) y (h .at-lowered c); at-raised = λ c. at-least-0 (raised w a) y (h .at-raised c); one-kept = h .one-kept }
+  either-asked : (y : ℕ) (a : Angle) → ArctangentAsked w false 0 y a → ArctangentAsked w true 0 y a
+  either-asked y a h = record { at-lowered = λ c. at-most-0 (lowered w a) y (h .at-lowered c); at-raised = λ c. at-least-0 (raised w a) y (h .at-raised c); one-kept = h .one-kept }
 
-  -- the answer for the number t p / q, by the steps that are found for the magnitude
-  answer : (x : Float) (s t : Bool) (a : Float) (p q : ℕ) → isNan x ≡ false → lt x zero32 ≡ s → mag x ≡ a → ArctangentAsked w t p q (s, atanSteps (cutAt 40 (clamped a))) → Answer (ArctangentAsked w t p q) (atanOf x)
-  answer x s t a p q n l m h =
-      let k = atanSteps (cutAt 40 (clamped a)) in
-      let top = steps-within (cutAt 40 (clamped a)) in
+  -- the answer for the number p / q, by the steps that are found for it
+  answer : (x : Float) (p q : ℕ) → isNan x ≡ false → Bracket w p q (atanSteps (atanUnits x)) → Answer (ArctangentAsked w (lt x zero32) p q) (atanOf x)
+  answer x p q n b =
+      let s = lt x zero32 in
+      let k = atanSteps (atanUnits x) in
+      let top = steps-within (atanUnits x) in
       record {
         angle = (s, k);
-        value = subst (λ (z : Float). HasValue z s k (2 ^ 22)) (ap (λ (b : Bool). inSteps b k) (sym l) ∙ ap (λ (z : Float). inSteps (lt x zero32) (atanSteps (cutAt 40 (clamped z)))) (sym m) ∙ atan-number x n) (in-steps-value s k (lt-of-le-of-lt top (lit< tt)));
+        value = subst (λ (z : Float). HasValue z s k (2 ^ 22)) (atan-number x n) (in-steps-value s k (lt-of-le-of-lt top (lit< tt)));
         in-range = ranged s k top;
-        as-asked = h;
+        as-asked = bracket-asked w k p q w1 w4 top b s;
       }
     where
       ranged : (s : Bool) (k : ℕ) → k ≤ atanTop → InRange (s, k)
       ranged false k h = omega arith
       ranged true k h = omega arith
 
-  asked-at : (s : Bool) (p q u : ℕ) → Bracket w p q (atanSteps u) → ArctangentAsked w s p q (s, atanSteps u)
-  asked-at s p q u b = bracket-asked w (atanSteps u) p q w1 w4 (steps-within u) b s
-
-  number : (s : Bool) (m : ℕ) (e : ℤ) → T (fits binary32 (fin s (suc m) e)) → Answer (ArctangentAsked w s (suc m * up e) (down e)) (atanOf (fin s (suc m) e))
-  number s m e t =
-      let i = mag-is s m e in
-      answer (fin s (suc m) e) s s (fin false (suc m) e) (suc m * up e) (down e) (finite s (suc m) e) (i .1) (i .0)
-      (asked-at s (suc m * up e) (down e) (cutAt 40 (clamped (fin false (suc m) e))) (magnitude-brackets w (suc m) e (unsigned s m e t)))
-
-  nought : (s : Bool) (e : ℤ) → Answer (ArctangentAsked w s (zero * up e) (down e)) (atanOf (fin s zero e))
-  nought s e =
-      answer (fin s zero e) false s zero32 (zero * up e) (down e) (finite s zero e) (mag-0 s e .1) (mag-0 s e .0)
-      (subst (λ (p : ℕ). ArctangentAsked w s p (down e) (false, atanSteps (cutAt 40 (clamped zero32)))) (sym (zero-mul (up e)))
-      (either-asked s (down e) (false, atanSteps (cutAt 40 (clamped zero32))) (asked-at false 0 (down e) (cutAt 40 (clamped zero32)) (zero-brackets w e))))
-
   -- the theorem
   pub atan-meets : (x : Float) → T (fits binary32 x) → EveryNumber (ArctangentAsked w) x (atanOf x)
-  unfolding isNan mag lt eq neg
+  unfolding isNan lt
   atan-meets nan t = sym (atan-nan nan refl)
-  atan-meets (inf false) t = answer (inf false) false false (inf false) 1 0 refl refl refl (asked-at false 1 0 (cutAt 40 (clamped (inf false))) (infinity-brackets w))
-  atan-meets (inf true) t = answer (inf true) true true (inf false) 1 0 refl refl refl (asked-at true 1 0 (cutAt 40 (clamped (inf false))) (infinity-brackets w))
-  atan-meets (fin s zero e) t = nought s e
-  atan-meets (fin s (suc m) e) t = number s m e t
+  atan-meets (inf s) t = answer (inf s) 1 0 refl (infinity-brackets w s)
+  atan-meets (fin s m e) t = by-sign (ArctangentAsked w) either-asked s m e (atanOf (fin s m e)) (answer (fin s m e) (m * up e) (down e) refl (number-brackets w s m e))
 
 -- at the width that is promised
 pub atan-promise : (x : Float) → T (fits binary32 x) → EveryNumber (ArctangentAsked halfWidth) x (atanOf x)

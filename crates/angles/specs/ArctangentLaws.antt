@@ -13,10 +13,10 @@ use lib.Ieee.{Float, nan, lt, isNan}
 use Rattle.angles.specs.Series.{Near, fixed, sinDen, sinPlus, sinMinus, cosPlus, cosMinus, cosDen}
 use Rattle.angles.specs.Near.{compared}
 use Rattle.angles.specs.Steps.{cos-positive-half}
-use Rattle.angles.specs.Grid.{odd-half, zero32, mag, cutAt, inSteps}
+use Rattle.angles.specs.Grid.{odd-half, zero32, inSteps}
 use Rattle.angles.specs.Brackets.{Brackets, brackets}
 use Rattle.angles.specs.LeastLaws.{Falls, Found, least-found, unique}
-use Rattle.angles.specs.Arctangent.{atanLow, atanHigh, tanBelow, atanTop, atanSteps, clamped, atanOf}
+use Rattle.angles.specs.Arctangent.{atanLow, atanHigh, tanBelow, atanTop, atanSteps, atanUnits, atanOf}
 use Rattle.angles.specs.TangentSteps.{bend}
 use Rattle.angles.specs.TangentClimbs.{Climbs, unit, left, right, further, level, climbs-low, climbs-high, left-before, right-after, past-bend, greater}
 use Rattle.angles.specs.ArctangentNear.{sineSide, sine-side-near, cosine-side-near}
@@ -221,7 +221,7 @@ far-brackets w x y h = subst (λ (k : ℕ). Bracket w x y k) last-step (record {
     upper l m = absurd (past w l m)
 
 -- ---- the recipe's cases
-pub atan-number : (x : Float) → isNan x ≡ false → inSteps (lt x zero32) (atanSteps (cutAt 40 (clamped (mag x)))) ≡ atanOf x
+pub atan-number : (x : Float) → isNan x ≡ false → inSteps (lt x zero32) (atanSteps (atanUnits x)) ≡ atanOf x
 unfolding atanOf
 atan-number x q = rw q
 

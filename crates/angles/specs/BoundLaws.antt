@@ -2,16 +2,17 @@
 use mathlib.Core.Path.{_≡_, refl, sym, ap, _∙_, subst}
 use mathlib.Core.Bool.{Bool, true, false, cond, not}
 use Prim.Native.Nat.{ℕ, zero, suc, _+_, _*_, _^_, _-_, _≤_, _<_}
-use native.Mathlib.Nat.{le-trans, le-of-eq, lt-irrefl, lt-of-lt-of-le, zero-mul, one-mul, add-zero}
+use native.Mathlib.Nat.{le-trans, le-of-eq, lt-irrefl, lt-of-lt-of-le, lt-of-le-of-lt, zero-mul, one-mul, add-zero}
 use native.Mathlib.Omega.{arith}
-use lib.IntN.{ℤ, pos, negsuc}
-use lib.Dec.{T, leb, eqb→eq}
-use borrow.Author.Tests.{leb-true}
-use lib.Ieee.{Float, nan, inf, fin, binary32, up, down, fits, lt, le, eq, neg}
+use lib.IntN.{ℤ}
+use lib.Dec.{leb}
+use borrow.Author.Tests.{leb-true, le-leb, lt-leb}
+use lib.Ieee.{Float, nan, inf, fin, up, down, lt, le, eq, neg}
 use Rattle.angles.specs.Series.{cosDown}
 use Rattle.angles.specs.Steps.{cos-positive-half, cos-past}
-use Rattle.angles.specs.Grid.{mag, zero32, one32}
-use Rattle.angles.specs.GridLaws.{mag-is, mag-0, up-to-one, above-one}
+use Rattle.angles.specs.Grid.{zero32, one32, within}
+use Rattle.angles.specs.GridLaws.{sign-is, sign-0}
+use Rattle.angles.specs.Argument.{within-is}
 use Rattle.angles.specs.Bound.{Angle, towards, AtMost, AtLeast, CosinePositive, Answer, UpToOne}
 
 -- 0 has either sign
@@ -52,38 +53,29 @@ dropped w k w4 top f c = lt-irrefl (cosDown (2 * (k + w)) (2 ^ 23)) (lt-of-lt-of
 
 -- ---- every f32
 
--- a function that is NaN outside of -1 to 1, and inside is as asked by the magnitude and the sign
-module _ (asked : Bool → ℕ → ℕ → Angle → Type 0) (f : Float → Float)
-    (outside : (x : Float) → le (mag x) one32 ≡ false → nan ≡ f x)
-    (inside : (x : Float) (m : ℕ) (e : ℤ) → mag x ≡ fin false m e → T (fits binary32 (fin false m e)) → le (fin false m e) one32 ≡ true → Answer (asked (lt x zero32) (m * up e) (down e)) (f x))
-    (either : (y : ℕ) (a : Angle) → asked false 0 y a → asked true 0 y a) where
-  at-0 : (s : Bool) (a : Angle) → asked false 0 1 a → asked s 0 1 a
-  at-0 false a h = h
-  at-0 true a h = either 1 a h
-
-  zero-answer : (s : Bool) (e : ℤ) → T (fits binary32 (fin s zero e)) → Answer (asked s (zero * up e) (down e)) (f (fin s zero e))
-  unfolding fits le lt eq
-  zero-answer s e t =
-      let r = inside (fin s zero e) 0 (pos 0) (mag-0 s e .0) tt refl in
-      let d : down e ≡ 1 = whole e (eqb→eq (up e * down e) 1 t) in
-      subst (λ (y : ℕ). Answer (asked s (zero * up e) y) (f (fin s zero e))) (sym d)
-      (subst (λ (x : ℕ). Answer (asked s x 1) (f (fin s zero e))) (sym (zero-mul (up e)))
-      (record { angle = r .angle; value = r .value; in-range = r .in-range; as-asked = at-0 s (r .angle) (subst (λ (b : Bool). asked b 0 1 (r .angle)) (mag-0 s e .1) (r .as-asked)) }))
+-- where what is asked at +0 is asked at -0 too
+module _ (asked : Bool → ℕ → ℕ → Angle → Type 0) (either : (y : ℕ) (a : Angle) → asked false 0 y a → asked true 0 y a) where
+  -- the sign by the test against 0 serves for the number's own
+  pub by-sign : (s : Bool) (m : ℕ) (e : ℤ) (r : Float) → Answer (asked (lt (fin s m e) zero32) (m * up e) (down e)) r → Answer (asked s (m * up e) (down e)) r
+  by-sign s zero e r h =
+      let h0 : Answer (asked false 0 (down e)) r = subst (λ (x : ℕ). Answer (asked false x (down e)) r) (zero-mul (up e)) (subst (λ (b : Bool). Answer (asked b (zero * up e) (down e)) r) (sign-0 s e) h) in
+      subst (λ (x : ℕ). Answer (asked s x (down e)) r) (sym (zero-mul (up e))) (record { angle = h0 .angle; value = h0 .value; in-range = h0 .in-range; as-asked = at-0 s (h0 .angle) (h0 .as-asked) })
     where
-      whole : (e : ℤ) → up e * down e ≡ 1 → down e ≡ 1
-      whole (pos i) h = refl
-      whole (negsuc i) h = sym (one-mul (down (negsuc i))) ∙ h
+      at-0 : (s : Bool) (a : Angle) → asked false 0 (down e) a → asked s 0 (down e) a
+      at-0 false a h = h
+      at-0 true a h = either (down e) a h
+  by-sign s (suc m) e r h = subst (λ (b : Bool). Answer (asked b (suc m * up e) (down e)) r) (sign-is s m e) h
 
-  pub up-to-one-all : (x : Float) → T (fits binary32 x) → UpToOne asked x (f x)
-  unfolding fits mag le lt eq neg
-  up-to-one-all nan t = sym (outside nan refl)
-  up-to-one-all (inf false) t = sym (outside (inf false) refl)
-  up-to-one-all (inf true) t = sym (outside (inf true) refl)
-  up-to-one-all (fin s zero e) t = (λ h. zero-answer s e t, λ h. absurd (none (down e) (up e) h))
-    where
-      none : (d u : ℕ) → d < zero * u → ⊥
-      none d u h = let z : zero * u ≡ 0 = zero-mul u in omega arith
-  up-to-one-all (fin s (suc m) e) t = (
-    λ h. subst (λ (b : Bool). Answer (asked b (suc m * up e) (down e)) (f (fin s (suc m) e))) (mag-is s m e .1) (inside (fin s (suc m) e) (suc m) e (mag-is s m e .0) t (up-to-one (suc m) e h)),
-    λ h. sym (outside (fin s (suc m) e) (ap (λ (a : Float). le a one32) (mag-is s m e .0) ∙ above-one (suc m) e h)),
+  -- a function that is NaN outside of -1 to 1, and inside is as asked
+  pub up-to-one-all : (f : Float → Float)
+      → ((x : Float) → within one32 x ≡ false → nan ≡ f x)
+      → ((s : Bool) (m : ℕ) (e : ℤ) → within one32 (fin s m e) ≡ true → Answer (asked (lt (fin s m e) zero32) (m * up e) (down e)) (f (fin s m e)))
+      → (x : Float) → UpToOne asked x (f x)
+  unfolding within le lt eq neg
+  up-to-one-all f outside inside nan = sym (outside nan refl)
+  up-to-one-all f outside inside (inf false) = sym (outside (inf false) refl)
+  up-to-one-all f outside inside (inf true) = sym (outside (inf true) refl)
+  up-to-one-all f outside inside (fin s m e) = (
+    λ h. by-sign s m e (f (fin s m e)) (inside s m e (within-is 0 s m e ∙ le-leb (m * up e) (1 * down e) (le-trans h (le-of-eq (sym (one-mul (down e))))))),
+    λ h. sym (outside (fin s m e) (within-is 0 s m e ∙ lt-leb (m * up e) (1 * down e) (lt-of-le-of-lt (le-of-eq (one-mul (down e))) h))),
   )

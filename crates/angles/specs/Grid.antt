@@ -1,8 +1,8 @@
--- What the arcs share: the grid of steps of 2 ^ -22 on which their answers lie, and the argument's magnitude as a whole number.
-use mathlib.Core.Bool.{Bool, false, cond}
+-- What the functions share: the test of an argument against a bound, and the grid of steps of 2 ^ -22 on which the arcs' answers lie.
+use mathlib.Core.Bool.{Bool, false, cond, _&&_}
 use Prim.Native.Nat.{ℕ, _+_, _*_, _^_}
 use lib.IntN.{pos, negsuc}
-use lib.Ieee.{Float, fin, binary32, mul, neg, lt, eq, toUnsigned, ofInt}
+use lib.Ieee.{Float, fin, binary32, mul, neg, le, ofInt}
 
 -- half a step above k steps, in half steps, and times 2 ^ 61: the angle at which the arcs' tests evaluate the series
 abbrev pub odd-half : ℕ → ℕ
@@ -17,13 +17,9 @@ zero32 = fin false 0 (pos 0)
 abbrev pub one32 : Float
 one32 = fin false 1 (pos 0)
 
--- the magnitude, of -0 too; NaN stays
-unfoldable pub mag : Float → Float
-mag x = cond (lt x zero32) (neg x) (cond (eq x zero32) zero32 x)
-
--- a * 2 ^ s, cut to a whole number
-unfoldable pub cutAt : ℕ → Float → ℕ
-cutAt s a = toUnsigned 64 (mul binary32 a (fin false 1 (pos s)))
+-- |x| ≤ w: false at NaN
+unfoldable pub within : Float → Float → Bool
+within w x = le (neg w) x && le x w
 
 -- k steps, negated where s is true: 0 steps are +0 or, negated, -0
 unfoldable pub inSteps : Bool → ℕ → Float

@@ -25,10 +25,8 @@ pub mod CosNear
 pub mod Intervals
 pub mod Slopes
 pub mod Steps
-pub mod Scaled
-pub mod Units
+pub mod Argument
 pub mod Rounded
-pub mod SinCosArgument
 pub mod SinCosBounded
 pub mod SinCosLaws
 pub mod LeastLaws
@@ -41,6 +39,5 @@ pub mod TangentClimbs
 pub mod ArctangentNear
 pub mod ArctangentLaws
 pub mod ArctangentGuess
-pub mod ArctangentUnits
 pub mod ArcsLaws
 pub mod BoundLaws

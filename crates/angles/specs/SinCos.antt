@@ -1,19 +1,15 @@
 -- The sine and the cosine of an f32: the recipe of docs/ANGLES.md. Assumes nothing.
-use mathlib.Core.Bool.{Bool, false, cond, not, _&&_}
+use mathlib.Core.Bool.{Bool, false, cond, not}
 use Prim.Native.Nat.{ℕ, _-_, _/_, _^_}
 use lib.IntN.{pos, negsuc}
 use lib.Dec.{ltb}
-use lib.Ieee.{Float, nan, fin, binary32, mul, neg, lt, le, ofInt}
+use lib.Ieee.{Float, nan, fin, binary32, mul, neg, lt, ofInt}
 use Rattle.arith.specs.Floats.{scaled}
 use Rattle.angles.specs.Series.{square, power, sinPlus, sinMinus, cosPlus, cosMinus}
-use Rattle.angles.specs.Grid.{zero32}
+use Rattle.angles.specs.Grid.{zero32, within}
 
 abbrev pub four32 : Float
 four32 = fin false 1 (pos 2)
-
--- |x| ≤ w: false at NaN
-unfoldable pub within : Float → Float → Bool
-within w x = le (neg w) x && le x w
 
 -- d · 2 ^ -57, cut to 30 binary places and rounded to the nearest f32; negated where s is true
 unfoldable pub fromUnits : Bool → ℕ → Float

@@ -5,7 +5,8 @@ use Prim.Native.Nat.{ℕ}
 use lib.Count.{trailingZeros}
 use lib.Ieee.{binary32, mul, neg, lt, le, eq, ofInt, ofBits, ofFields, round, size, units, odd}
 use Rattle.angles.specs.Series.{fixed, sinPlus, sinMinus, cosPlus, cosMinus}
-use Rattle.angles.specs.SinCos.{within, fromUnits, difference, sinOf, cosOf}
+use Rattle.angles.specs.Grid.{within}
+use Rattle.angles.specs.SinCos.{fromUnits, difference, sinOf, cosOf}
 use Rattle.arith.specs.Floats.{scaled}
 
 -- an argument, its sine, its cosine

@@ -7,10 +7,11 @@ ghost use Prim.Native.Nat.{ℕ, _^_, _≤_};
 ghost use Rattle.angles.specs.LeastLaws.{Steep};
 ghost use Rattle.angles.specs.Arccosine.{acosTop, acosLow, acosHigh, acosSteps, acosOf};
 use super::grid::in_steps;
-use super::grid::magnitude;
-use super::grid::units;
 use super::guess::arc;
 use super::guess::in_256ths;
+use super::guess::magnitude;
+use super::scale::is_within;
+use super::scale::scaled_by;
 use super::search::Arc;
 use super::search::agrees;
 use super::search::cosine_sides;
@@ -63,10 +64,10 @@ fn steps(neg: bool, t: u64, h: u32) -> u64
     }
 }
 
-fn guess(neg: bool, a: f32) -> u32
-    requires { ⌜ T (not (isNan a)) ⌝ }
+fn guess(neg: bool, x: f32) -> u32
+    requires { ⌜ T (not (isNan x)) ⌝ }
 {
-    let g = arc(a);
+    let g = arc(magnitude(x));
     if neg {
         in_256ths(13176794.6333222841 - g)
     } else {
@@ -77,10 +78,9 @@ fn guess(neg: bool, a: f32) -> u32
 pub(crate) fn acos(x: f32) -> f32
     ensures { λ r. ⌜ r ≡ acosOf x ⌝ }
 {
-    let a = magnitude(x);
-    if a <= 1.0 {
+    if is_within(x, 1.0) {
         let neg = x < 0.0;
-        in_steps(steps(neg, units(a), guess(neg, a)), false)
+        in_steps(steps(neg, scaled_by(57, x), guess(neg, x)), false)
     } else {
         0.0 / 0.0
     }

@@ -7,10 +7,11 @@ ghost use Prim.Native.Nat.{ℕ, _^_, _≤_};
 ghost use Rattle.angles.specs.LeastLaws.{Steep};
 ghost use Rattle.angles.specs.Arcsine.{asinTop, asinLow, asinHigh, asinSteps, asinOf};
 use super::grid::in_steps;
-use super::grid::magnitude;
-use super::grid::units;
 use super::guess::arc;
 use super::guess::in_256ths;
+use super::guess::magnitude;
+use super::scale::is_within;
+use super::scale::scaled_by;
 use super::search::Arc;
 use super::search::agrees;
 use super::search::search;
@@ -42,18 +43,17 @@ fn steps(t: u64, h: u32) -> u64
     }
 }
 
-fn guess(a: f32) -> u32
-    requires { ⌜ T (not (isNan a)) ⌝ }
+fn guess(x: f32) -> u32
+    requires { ⌜ T (not (isNan x)) ⌝ }
 {
-    in_256ths(6588397.31666114207 - arc(a))
+    in_256ths(6588397.31666114207 - arc(magnitude(x)))
 }
 
 pub(crate) fn asin(x: f32) -> f32
     ensures { λ r. ⌜ r ≡ asinOf x ⌝ }
 {
-    let a = magnitude(x);
-    if a <= 1.0 {
-        in_steps(steps(units(a), guess(a)), x < 0.0)
+    if is_within(x, 1.0) {
+        in_steps(steps(scaled_by(57, x), guess(x)), x < 0.0)
     } else {
         0.0 / 0.0
     }

@@ -4,33 +4,29 @@ ghost use mathlib.Core.Bool.{not};
 ghost use lib.Dec.{T};
 ghost use lib.Ieee.{isNan};
 ghost use Prim.Native.Nat.{_-_, _^_, _≤_};
-ghost use Rattle.angles.specs.Grid.{cutAt};
-ghost use Rattle.angles.specs.Units.{Scalable};
 ghost use Rattle.angles.specs.LeastLaws.{Steep};
-ghost use Rattle.angles.specs.Arctangent.{atanTop, atanLow, atanHigh, atanSteps, clamped, atanOf};
+ghost use Rattle.angles.specs.Arctangent.{atanTop, atanLow, atanHigh, atanSteps, atanUnits, atanOf};
 use super::grid::in_steps;
-use super::grid::magnitude;
 use super::guess::in_256ths;
+use super::guess::magnitude;
 use super::guess::small_arc;
+use super::scale::is_within;
+use super::scale::scaled_by;
 use super::search::Arc;
 use super::search::agrees;
 use super::search::search;
 use super::search::tangent_sides;
 use super::series::high_product;
 
-// 2^23 where a magnitude is more.
-fn clamp(a: f32) -> f32
-    ensures { λ r. ⌜ r ≡ clamped a ⌝ }
+// min(|x|, 2^23) * 2^40, cut.
+fn units(x: f32) -> u64
+    ensures { λ r. ⌜ (r ≡ atanUnits x) × (r ≤ 2 ^ 63) ⌝ }
 {
-    if a < 8388608.0 { a } else { 8388608.0 }
-}
-
-// a * 2^40, cut.
-fn units(a: f32) -> u64
-    requires { ⌜ Scalable 40 (2 ^ 23) a ⌝ }
-    ensures { λ r. ⌜ (r ≡ cutAt 40 a) × (r ≤ 2 ^ 63) ⌝ }
-{
-    std::num::truncating_f32_to_u64(a * 1099511627776.0)
+    if is_within(x, 8388608.0) {
+        scaled_by(40, x)
+    } else {
+        9223372036854775808
+    }
 }
 
 fn minus(a: u64, b: u64) -> u64
@@ -72,10 +68,10 @@ fn steps(t: u64, h: u32) -> u64
     }
 }
 
-fn guess(a: f32) -> u32
-    requires { ⌜ T (not (isNan a)) ⌝ }
+fn guess(x: f32) -> u32
+    requires { ⌜ T (not (isNan x)) ⌝ }
 {
-    let w = a as f64;
+    let w = magnitude(x);
     if w > 1.0 {
         in_256ths(6588397.31666114207 - small_arc(1.0 / w))
     } else {
@@ -86,10 +82,9 @@ fn guess(a: f32) -> u32
 pub(crate) fn atan(x: f32) -> f32
     ensures { λ r. ⌜ r ≡ atanOf x ⌝ }
 {
-    let a = magnitude(x);
-    if a >= 0.0 {
-        let c = clamp(a);
-        in_steps(steps(units(c), guess(c)), x < 0.0)
+    // NaN alone is not equal to itself.
+    if x == x {
+        in_steps(steps(units(x), guess(x)), x < 0.0)
     } else {
         0.0 / 0.0
     }

@@ -3,6 +3,14 @@ ghost use mathlib.Core.Bool.{not};
 ghost use lib.Dec.{T};
 ghost use lib.Ieee.{isNan};
 
+// |x|
+pub(crate) fn magnitude(x: f32) -> f64
+    requires { ⌜ T (not (isNan x)) ⌝ }
+{
+    let w = x as f64;
+    if w < 0.0 { -w } else { w }
+}
+
 // About 1/√u, to 7 in 10,000, for u from 0 to 2.
 fn rough_root(u: f64) -> f64 {
     if u >= 0.0 {
@@ -25,11 +33,8 @@ pub(crate) fn in_256ths(g: f64) -> u32 {
 }
 
 // About the arccosine of a, from 0 to 1, in steps of 2^-22.
-pub(crate) fn arc(a: f32) -> f64
-    requires { ⌜ T (not (isNan a)) ⌝ }
-{
-    let w = a as f64;
-    let u = 1.0 - w;
+pub(crate) fn arc(a: f64) -> f64 {
+    let u = 1.0 - a;
     let y = rough_root(u);
     let r = u * y;
     let e = 1.0 - r * y;

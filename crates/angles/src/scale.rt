@@ -4,7 +4,7 @@ ghost use Prim.Native.Nat.{_^_, _≤_, _<_};
 ghost use lib.Dec.{T};
 ghost use lib.Ieee.Scale.{finite};
 ghost use Rattle.arith.specs.Floats.{scaled};
-ghost use Rattle.angles.specs.SinCos.{within};
+ghost use Rattle.angles.specs.Grid.{within};
 
 // |x| <= w; false at NaN.
 pub(crate) fn is_within(x: f32, w: f32) -> bool

@@ -1,14 +1,16 @@
--- The order of floats: `<` is transitive (float-trans), asymmetric (float-asym), and excludes `==` (float-ne); a magnitude is not below 0, and minus a magnitude is not above it.
+-- The order of floats: `<` is transitive (float-trans), asymmetric (float-asym), and excludes `==` (float-ne) and `>=` (float-not-le); a magnitude is not below 0, and minus a magnitude
+-- is not above it; what is `<=` or `>=` something is a number (le-number), and `<=` is transitive (le-trans).
 -- Assumes nothing.
 use mathlib.Core.Path.{_≡_, refl, sym, subst, _∙_}
-use mathlib.Core.Bool.{Bool, true, false, _&&_}
-use Prim.Native.Nat.{ℕ, _+_, _*_, _<_}
-use native.Mathlib.Nat.{lt-trans, mul-right-comm, mul-lt-mul-of-pos-right, lt-of-mul-lt-mul-right, mul-pos, zero-mul}
+use mathlib.Core.Bool.{Bool, true, false, _&&_, _||_}
+use Prim.Native.Nat.{ℕ, zero, suc, _+_, _*_, _≤_, _<_}
+use native.Mathlib.Nat.{lt-trans, mul-right-comm, mul-lt-mul-of-pos-right, lt-of-mul-lt-mul-right, mul-pos, zero-mul, zero-lt-suc}
 use native.Mathlib.Omega.{arith}
-use lib.Dec.{eqb}
-use lib.Ieee.{Float, nan, inf, fin, up, down, below, level, ofBits, neg, lt, eq}
+use lib.Dec.{leb, ltb, eqb}
+use lib.Ieee.{Float, nan, inf, fin, up, down, below, level, ofBits, neg, lt, le, eq}
 use lib.Ieee.Fits.{down-pos}
-use borrow.Author.Tests.{ltb-true, lt-ltb, le-ltb, ne-eqb, eqb-true}
+use lib.Ieee.Positive.{through}
+use borrow.Author.Tests.{leb-true, leb-false, ltb-true, ltb-false, lt-ltb, le-ltb, eq-eqb, ne-eqb, eqb-true, eqb-false}
 use Rattle.arith.specs.Floats.{f32, absOf}
 
 pub no : {X : Type 0} → false ≡ true → X
@@ -124,3 +126,119 @@ unfolding absOf neg lt ofBits
 neg-abs-not-above nan = refl
 neg-abs-not-above (inf s) = refl
 neg-abs-not-above (fin s m e) = refl
+
+-- x < y excludes y ≤ x
+pub float-not-le : (x y : Float) → lt x y ≡ true → le y x ≡ false
+unfolding le
+float-not-le x y p = rw (float-asym x y p, float-ne x y p)
+
+-- not NaN: equal to itself
+self-level : (s : Bool) (a : ℕ) → level s a s a ≡ true
+self-level false a = rw (eq-eqb a a refl)
+self-level true a = rw (eq-eqb a a refl)
+
+or-right : (t u : Bool) → u ≡ true → (t || u) ≡ true
+or-right true u e = refl
+or-right false u e = e
+
+no-le-nan : (x : Float) → le x nan ≡ true → ⊥
+unfolding le lt eq
+no-le-nan nan e = no e
+no-le-nan (inf s) e = no e
+no-le-nan (fin s m d) e = no e
+
+pub le-number : (x y : Float) → le x y ≡ true → le y y ≡ true
+unfolding le lt eq
+le-number x nan e = absurd (no-le-nan x e)
+le-number x (inf true) e = refl
+le-number x (inf false) e = refl
+le-number x (fin s m e) p = let a = m * up e * down e in or-right (below s a s a) (level s a s a) (self-level s a)
+
+-- `<=` of two finite numbers, by their signs and by their sizes over one denominator
+abbrev Under : Bool → ℕ → Bool → ℕ → Type 0
+Under false a false b = a ≤ b
+Under false a true b = (a ≡ 0) × (b ≡ 0)
+Under true a false b = Unit {0}
+Under true a true b = b ≤ a
+
+under-same : (a b : ℕ) (c : Bool) → leb a b ≡ c → (ltb a b || (eqb a b && true)) ≡ true → a ≤ b
+under-same a b true h e = leb-true a b h
+under-same a b false h e =
+    let k : b < a = leb-false a b h in
+    no (sym (rw (le-ltb a b (omega arith), ne-eqb a b (λ q. omega arith))) ∙ e)
+
+same-under : (a b : ℕ) (c : Bool) → ltb a b ≡ c → a ≤ b → (ltb a b || (eqb a b && true)) ≡ true
+same-under a b true h k = rw h
+same-under a b false h k = let j : b ≤ a = ltb-false a b h in rw (h, eq-eqb a b (omega arith))
+
+turned : (a b : ℕ) (c : Bool) → eqb a b ≡ c → eqb b a ≡ c
+turned a b true h = eq-eqb b a (let k = eqb-true a b h in omega arith)
+turned a b false h = ne-eqb b a (λ q. eqb-false a b h (omega arith))
+
+under-of : (s t : Bool) (a b : ℕ) → (below s a t b || level s a t b) ≡ true → Under s a t b
+under-of false false a b e = under-same a b (leb a b) refl e
+under-of false true a b e =
+    let w = parts (eqb a b) (eqb a 0) e in
+    let x : a ≡ b = eqb-true a b (w .0) in
+    let y : a ≡ 0 = eqb-true a 0 (w .1) in
+    omega arith
+under-of true false a b e = tt
+under-of true true a b e = under-same b a (leb b a) refl (rw (turned a b (eqb a b) refl) e)
+
+above-zero : (a b : ℕ) (c : Bool) → ltb 0 (a + b) ≡ c → (ltb 0 (a + b) || (eqb a b && eqb a 0)) ≡ true
+above-zero a b true h = rw h
+above-zero a b false h = let k : a + b ≤ 0 = ltb-false 0 (a + b) h in rw (h, eq-eqb a b (omega arith), eq-eqb a 0 (omega arith))
+
+of-under : (s t : Bool) (a b : ℕ) → Under s a t b → (below s a t b || level s a t b) ≡ true
+of-under false false a b u = same-under a b (ltb a b) refl u
+of-under false true a b u = rw (eq-eqb a b (omega arith), eq-eqb a 0 (u .0))
+of-under true false a b u = above-zero a b (ltb 0 (a + b)) refl
+of-under true true a b u = rw (turned b a (eqb b a) refl) (same-under b a (ltb b a) refl u)
+
+-- only 0 times a number above 0 is 0
+factor-zero : (n z : ℕ) → 0 < z → n * z ≤ 0 → n ≡ 0
+factor-zero zero z h e = refl
+factor-zero (suc n) z h e = let k : 0 < suc n * z = mul-pos (zero-lt-suc n) h in absurd (omega arith)
+
+zero-times : (n z : ℕ) → n ≡ 0 → n * z ≡ 0
+zero-times n z e = rw (e, zero-mul z)
+
+under-trans : (s t u : Bool) (a b c x y z : ℕ) → 0 < x → 0 < y → 0 < z → Under s (a * y) t (b * x) → Under t (b * z) u (c * y) → Under s (a * z) u (c * x)
+under-trans false false false a b c x y z X Y Z p q = through a b c x y z Y p q
+under-trans false false true a b c x y z X Y Z p q =
+    let m : b ≡ 0 = factor-zero b z Z (omega arith) in
+    let l : b * x ≡ 0 = zero-times b x m in
+    (zero-times a z (factor-zero a y Y (omega arith)), zero-times c x (factor-zero c y Y (omega arith)))
+under-trans false true false a b c x y z X Y Z p q = let l : a * z ≡ 0 = zero-times a z (factor-zero a y Y (omega arith)) in omega arith
+under-trans false true true a b c x y z X Y Z p q =
+    let m : b ≡ 0 = factor-zero b x X (omega arith) in
+    let l : b * z ≡ 0 = zero-times b z m in
+    (zero-times a z (factor-zero a y Y (omega arith)), zero-times c x (factor-zero c y Y (omega arith)))
+under-trans true t false a b c x y z X Y Z p q = tt
+under-trans true false true a b c x y z X Y Z p q = let l : c * x ≡ 0 = zero-times c x (factor-zero c y Y (omega arith)) in omega arith
+under-trans true true true a b c x y z X Y Z p q = through c b a z y x Y q p
+
+pub le-trans : (x y z : Float) → le x y ≡ true → le y z ≡ true → le x z ≡ true
+unfolding le lt eq
+le-trans nan y z p q = no p
+le-trans (inf true) y nan p q = absurd (no-le-nan y q)
+le-trans (inf true) y (inf true) p q = refl
+le-trans (inf true) y (inf false) p q = refl
+le-trans (inf true) y (fin u n d) p q = refl
+le-trans (inf false) nan z p q = no p
+le-trans (inf false) (inf true) z p q = no p
+le-trans (inf false) (inf false) z p q = q
+le-trans (inf false) (fin t k c) z p q = no p
+le-trans (fin s m e) nan z p q = no p
+le-trans (fin s m e) (inf true) z p q = no p
+le-trans (fin s m e) (inf false) nan p q = no q
+le-trans (fin s m e) (inf false) (inf true) p q = no q
+le-trans (fin s m e) (inf false) (inf false) p q = refl
+le-trans (fin s m e) (inf false) (fin u n d) p q = no q
+le-trans (fin s m e) (fin t k c) nan p q = no q
+le-trans (fin s m e) (fin t k c) (inf true) p q = no q
+le-trans (fin s m e) (fin t k c) (inf false) p q = refl
+le-trans (fin s m e) (fin t k c) (fin u n d) p q =
+    of-under s u (m * up e * down d) (n * up d * down e)
+    (under-trans s t u (m * up e) (k * up c) (n * up d) (down e) (down c) (down d) (down-pos e) (down-pos c) (down-pos d)
+    (under-of s t (m * up e * down c) (k * up c * down e) p) (under-of t u (k * up c * down d) (n * up d * down c) q))

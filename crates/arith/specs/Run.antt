@@ -1,4 +1,6 @@
 -- A loop as a definition: a step gives the next state or the answer. `run` takes so many steps at most, `steps` exactly so many, and `count` counts the states that a run passes through.
+-- Where a step goes from state to state and a test stops it, `until` is that loop's turn, and `iterate` takes so many steps with no test.
+use mathlib.Core.Bool.{Bool, true, false}
 use Prim.Native.Nat.{ℕ, zero, suc, _+_}
 
 pub data Next (S R : Type 0) : Type 0 where
@@ -34,3 +36,16 @@ module _ {S R : Type 0} (f : S → Next S R) where
   unfoldable pub count : (S → ℕ) → ℕ → S → ℕ
   count c zero s = 0
   count c (suc n) s = c s + rest (count c n) (f s)
+
+-- g, n times
+unfoldable pub iterate : {S : Type 0} → ℕ → (S → S) → S → S
+iterate zero g s = s
+iterate (suc n) g s = iterate n g (g s)
+
+-- the step g as a turn: the answer is the state that passes the test
+abbrev pub stopBy : {S : Type 0} → Bool → S → S → Next S S
+stopBy true s t = done s
+stopBy false s t = more t
+
+unfoldable pub until : {S : Type 0} → (S → Bool) → (S → S) → S → Next S S
+until stop g s = stopBy (stop s) s (g s)

@@ -1,10 +1,12 @@
 -- Laws of `run`, for every loop: a loop in the code equals its definition (`Leads`), what each step keeps the run has (`run-keeps`), fuel above a falling measure makes no difference
--- (`run-same`), steps add up (`steps-add`), and a number that each step raises by c has risen by the count (`run-counts`). Assumes nothing.
+-- (`run-same`), steps add up (`steps-add`), a number that each step raises by c has risen by the count
+-- (`run-counts`), and where the test stops the step only at its fixed points, the run is the step iterated (`run-iterate`). Assumes nothing.
 use mathlib.Core.Path.{_≡_, refl, sym, ap, _∙_}
+use mathlib.Core.Bool.{Bool, true, false}
 use Prim.Native.Nat.{ℕ, zero, suc, _+_, _≤_, _<_}
 use native.Mathlib.Omega.{arith}
 use native.Mathlib.Nat.{le-refl, suc-add, zero-add}
-use Rattle.arith.specs.Run.{Next, more, done, onward, rest, then, run, steps, count}
+use Rattle.arith.specs.Run.{Next, more, done, onward, rest, then, run, steps, count, iterate, stopBy, until}
 
 -- ---- the invariant of a loop whose turn is the step f: the run from the state at hand, with fuel for its measure k, answers r
 pub record Leads {S R : Type 0} (f : S → Next S R) (d : R) (k : ℕ) (s : S) (r : R) : Type 0 where
@@ -116,3 +118,33 @@ module _ {S R : Type 0} (f : S → Next S R) (P : S → Type 0) (m : S → ℕ) 
   unfolding run count
   run-counts zero s p h = absurd (omega (arith, z s))
   run-counts (suc n) s p h = counts-on n (run-counts n) (m s) (u s) (c s) (f s) h (k s p) (raise s p)
+
+-- ---- a step that is iterated, with or without a test that stops it at a fixed point
+module _ {S : Type 0} (g : S → S) where
+  pub iterate-add : (m n : ℕ) (s : S) → iterate (m + n) g s ≡ iterate n g (iterate m g s)
+  unfolding iterate
+  iterate-add zero n s = ap (λ (k : ℕ). iterate k g s) (zero-add n)
+  iterate-add (suc m) n s = ap (λ (k : ℕ). iterate k g s) (suc-add m n) ∙ iterate-add m n (g s)
+
+  pub iterate-fixed : (n : ℕ) (s : S) → g s ≡ s → iterate n g s ≡ s
+  unfolding iterate
+  iterate-fixed zero s e = refl
+  iterate-fixed (suc n) s e = ap (iterate n g) e ∙ iterate-fixed n s e
+
+  -- what g keeps
+  pub iterate-keeps : (P : S → Type 0) → ((s : S) → P s → P (g s)) → (n : ℕ) (s : S) → P s → P (iterate n g s)
+  unfolding iterate
+  iterate-keeps P k zero s p = p
+  iterate-keeps P k (suc n) s p = iterate-keeps P k n (g s) (k s p)
+
+module _ {S : Type 0} (stop : S → Bool) (g : S → S) (fixed : (s : S) → stop s ≡ true → g s ≡ s) (P : S → Type 0) (m : S → ℕ)
+    (k : (s : S) → P s → Lessens P m (m s) (until stop g s)) (z : (s : S) → 0 < m s) (d : S) where
+  iterate-on : (n : ℕ) (r : (s : S) → P s → m s ≤ n → run (until stop g) d n s ≡ iterate n g s) (s : S) (j : ℕ) (b : Bool) → stop s ≡ b → j ≤ suc n
+      → Lessens P m j (stopBy b s (g s)) → onward (run (until stop g) d n) (stopBy b s (g s)) ≡ iterate n g (g s)
+  iterate-on n r s j true e h q = sym (ap (iterate n g) (fixed s e) ∙ iterate-fixed g n s (fixed s e))
+  iterate-on n r s j false e h q = r (g s) (q .0) (omega arith)
+
+  pub run-iterate : (n : ℕ) (s : S) → P s → m s ≤ n → run (until stop g) d n s ≡ iterate n g s
+  unfolding run iterate until
+  run-iterate zero s p h = absurd (omega (arith, z s))
+  run-iterate (suc n) s p h = iterate-on n (run-iterate n) s (m s) (stop s) refl h (k s p)

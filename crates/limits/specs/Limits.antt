@@ -1,6 +1,7 @@
 -- Document 01, "The bytes of a job": the ranges 3 to 13, each by its number, its sentence and a test that computes. "Ends are included."
 use Prim.Native.Nat.{ℕ, _+_}
-use mathlib.Core.Bool.{Bool, _&&_}
+use mathlib.Core.Bool.{Bool, true, false, _&&_}
+use mathlib.Core.List.{List, [], _∷_}
 use lib.Dec.{leb}
 use lib.IntN.{ℤ, pos}
 use lib.Signed.{leZ}
@@ -10,6 +11,21 @@ use Rattle.arith.specs.Floats.{f32}
 -- from lo to hi; "NaN never is within", and −0 lies within a range that starts at 0
 unfoldable pub within : Float → Float → Float → Bool
 within lo hi x = le lo x && le x hi
+
+-- the number of the first broken limit of a list of numbers and tests, 0 where none is broken
+unfoldable pub broken : List (ℕ × Bool) → ℕ
+broken [] = 0
+broken ((n, true) ∷ ls) = broken ls
+broken ((n, false) ∷ ls) = n
+
+-- what the answer of a check stands for: the values that it accepts, or the number of its limit
+pub data Checked (A : Type 0) : Type 0 where
+  accepted : A → Checked A
+  refused : ℕ → Checked A
+
+unfoldable pub checked : {A : Type 0} → ℕ → Bool → A → Checked A
+checked n true x = accepted x
+checked n false x = refused n
 
 -- 3. "k, a point counted from 0, is above 4."
 abbrev pub refusalK : ℕ

@@ -1,47 +1,46 @@
 -- `angles::arcsine::asin` meets its contract. Assumes nothing.
 use borrow.Author.Needs.{needs}
-use mathlib.Core.Path.{sym, ap, _∙_, subst}
-use mathlib.Core.Bool.{true, false}
+use mathlib.Core.Path.{_≡_, sym, _∙_, subst}
+use mathlib.Core.Bool.{true}
 use Prim.Native.Nat.{ℕ, _≤_, _^_}
 use native.Mathlib.Nat.{le-trans}
 use lib.Dec.{lit≤}
-use lib.Ieee.{Float, lt}
-use Rattle.angles.specs.Grid.{cutAt, inSteps, zero32, one32}
-use Rattle.angles.specs.GridLaws.{not-nan}
-use Rattle.angles.specs.Arcsine.{asinSteps}
-use Rattle.angles.specs.ArcsineLaws.{asin-steps-below, asin-inside, asin-outside}
-use Rattle.angles.proofs.Literals.{lit-0, zero-by-zero}
-use Rattle.angles.proofs.Inside.{inside, tested}
+use Rattle.angles.specs.Grid.{one32, within}
+use Rattle.angles.specs.Argument.{within-finite, finite-number, scaled-le, scaled-asked}
+use Rattle.angles.specs.Arcsine.{asinOf}
+use Rattle.angles.specs.ArcsineLaws.{asin-steps-below}
+use Rattle.angles.proofs.Literals.{lit-0, lit-1, zero-by-zero}
 use Rattle.angles.proofs.arcsine.asin.Statement.{statement}
 use Rattle.angles.proofs.arcsine.asin.Tie as tie
 
-magnitude-requires : tie.Need-magnitude-requires
-magnitude-requires c κs = search needs
+test : (c : tie.After-is-within) → within one32 (c .before .args .x) ≡ c .is-within .result
+test c = cc lit-1
 
-units-requires : tie.Need-units-requires
-units-requires c κs = inside (c .before .before .args .x) (c .before .magnitude .result) (c .before .magnitude .ensures) (c .if1 .taken)
+taken : (c : tie.Then1) → within one32 (c .before .before .args .x) ≡ true
+taken c = test (c .before) ∙ c .if1 .taken
+
+is-within-requires : tie.Need-is-within-requires
+is-within-requires c κs = search needs
+
+scaled-by-requires : tie.Need-scaled-by-requires
+scaled-by-requires c κs = scaled-asked 0 57 (lit≤ tt) (c .before .before .args .x) (taken c)
 
 guess-requires : tie.Need-guess-requires
-guess-requires c κs = let m = c .before .before .magnitude in not-nan (m .result) one32 (inside (c .before .before .before .args .x) (m .result) (m .ensures) (c .before .if1 .taken) .1)
+guess-requires c κs = let x = c .before .before .before .args .x in finite-number x (within-finite 0 x (taken (c .before)))
 
 steps-requires : tie.Need-steps-requires
-steps-requires c κs = search needs
+steps-requires c κs = let d = c .before in subst (λ (n : ℕ). n ≤ 2 ^ 57) (sym (d .scaled-by .ensures)) (scaled-le 0 57 (d .before .before .before .args .x) (taken (d .before)))
 
 in-steps-requires : tie.Need-in-steps-requires
-in-steps-requires c κs = subst (λ (k : ℕ). k ≤ 2 ^ 24) (sym (c .steps .ensures)) (le-trans (asin-steps-below (c .before .before .units .result)) (lit≤ tt))
+in-steps-requires c κs = subst (λ (k : ℕ). k ≤ 2 ^ 24) (sym (c .steps .ensures)) (le-trans (asin-steps-below (c .before .before .scaled-by .result)) (lit≤ tt))
 
 returns : tie.Need-returns
-returns c =
-    let x = c .before .before .before .before .before .before .args .x in
-    let m = c .before .before .before .before .before .magnitude in
-    let t = c .before .before .before .units in
-    c .in-steps .ensures
-    ∙ ap (λ (z : Float). inSteps (lt x z) (c .before .steps .result)) lit-0
-    ∙ ap (inSteps (lt x zero32)) (c .before .steps .ensures ∙ ap asinSteps (t .ensures .0 ∙ ap (cutAt 57) (m .ensures)))
-    ∙ asin-inside x (tested x (m .result) true (m .ensures) (c .before .before .before .before .if1 .taken))
+unfolding asinOf
+returns c = rw (taken (c .before .before .before .before)) (cc lit-0)
 
 returns-2 : tie.Need-returns-2
-returns-2 c = zero-by-zero ∙ asin-outside (c .before .before .args .x) (tested (c .before .before .args .x) (c .before .magnitude .result) false (c .before .magnitude .ensures) (c .if1 .left))
+unfolding asinOf
+returns-2 c = rw (test (c .before) ∙ c .if1 .left) (cc zero-by-zero)
 
 pub asin-spec : {M : Type 1} → statement M
-asin-spec = tie.close (tie.spec magnitude-requires units-requires guess-requires steps-requires in-steps-requires returns returns-2)
+asin-spec = tie.close (tie.spec is-within-requires scaled-by-requires guess-requires steps-requires in-steps-requires returns returns-2)

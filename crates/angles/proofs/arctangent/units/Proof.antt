@@ -1,21 +1,38 @@
 -- `angles::arctangent::units` meets its contract. Assumes nothing.
-use mathlib.Core.Path.{_≡_, sym, ap, _∙_, subst}
-use Prim.Native.Nat.{ℕ, _^_, _≤_}
-use lib.Ieee.{Float, mul, binary32, toUnsigned}
-use Rattle.angles.specs.Grid.{cutAt}
-use Rattle.angles.proofs.Literals.{lit-40}
+use borrow.Author.Needs.{needs}
+use mathlib.Core.Path.{_≡_, sym, _∙_, subst}
+use mathlib.Core.Bool.{true}
+use Prim.Native.Nat.{ℕ, _≤_, _^_}
+use lib.Dec.{lit≤}
+use Rattle.angles.specs.Grid.{within}
+use Rattle.angles.specs.Argument.{scaled-le, scaled-asked}
+use Rattle.angles.specs.Arctangent.{limit, atanUnits}
+use Rattle.angles.proofs.Literals.{lit-23}
 use Rattle.angles.proofs.arctangent.units.Statement.{statement}
 use Rattle.angles.proofs.arctangent.units.Tie as tie
 
-truncating-f32-to-u64-requires : tie.Need-truncating-f32-to-u64-requires
-truncating-f32-to-u64-requires c κs = rw lit-40 (c .pre .0)
+test : (c : tie.After-is-within) → within limit (c .before .args .x) ≡ c .is-within .result
+test c = cc lit-23
 
-is : (c : tie.After-truncating-f32-to-u64) → c .truncating-f32-to-u64 .result ≡ cutAt 40 (c .before .args .a)
-unfolding cutAt
-is c = c .truncating-f32-to-u64 .ensures ∙ ap (λ (z : Float). toUnsigned 64 (mul binary32 (c .before .args .a) z)) lit-40
+taken : (c : tie.Then1) → within limit (c .before .before .args .x) ≡ true
+taken c = test (c .before) ∙ c .if1 .taken
+
+is-within-requires : tie.Need-is-within-requires
+is-within-requires c κs = search needs
+
+scaled-by-requires : tie.Need-scaled-by-requires
+scaled-by-requires c κs = scaled-asked 23 40 (lit≤ tt) (c .before .before .args .x) (taken c)
 
 returns : tie.Need-returns
-returns c = (is c, subst (λ (t : ℕ). t ≤ 2 ^ 63) (sym (is c)) (c .before .pre .1))
+unfolding atanUnits
+returns c =
+    let d = c .before in
+    let e = c .scaled-by .ensures in
+    (rw (taken d) e, subst (λ (n : ℕ). n ≤ 2 ^ 63) (sym e) (scaled-le 23 40 (d .before .before .args .x) (taken d)))
+
+returns-2 : tie.Need-returns-2
+unfolding atanUnits
+returns-2 c = (rw (test (c .before) ∙ c .if1 .left), lit≤ tt)
 
 pub units-spec : {M : Type 1} → statement M
-units-spec = tie.close (tie.spec truncating-f32-to-u64-requires returns)
+units-spec = tie.close (tie.spec is-within-requires scaled-by-requires returns returns-2)

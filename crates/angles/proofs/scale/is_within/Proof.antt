@@ -1,5 +1,5 @@
 -- `angles::scale::is_within` meets its contract. Assumes nothing.
-use Rattle.angles.specs.SinCos.{within}
+use Rattle.angles.specs.Grid.{within}
 use Rattle.angles.proofs.scale.is_within.Statement.{statement}
 use Rattle.angles.proofs.scale.is_within.Tie as tie
 

@@ -1,25 +1,18 @@
 -- `angles::scale::scaled_by` meets its contract. Assumes nothing.
 use borrow.Author.Needs.{needs}
 use mathlib.Core.Path.{_≡_, sym, ap, _∙_, subst}
-use mathlib.Core.Bool.{not}
 use Prim.Native.Nat.{ℕ, _+_, _-_, _*_, _/_, _%_, _^_, _≤_, _<_}
 use native.Mathlib.Omega.{arith}
 use lib.Bits.{mask-lt}
 use lib.Dec.{T}
-use lib.Ieee.{Float, nan, inf, fin, binary32, fits, isNan, toBits}
-use lib.Ieee.Scale.{finite}
+use lib.Ieee.{binary32, fits, toBits}
+use Rattle.angles.specs.Argument.{finite-number}
 use Rattle.angles.proofs.Digits.{bits, digits, exponent-le, scaled-small, scaled-large, digits-fit}
 use Rattle.angles.proofs.scale.scaled_by.Statement.{statement}
 use Rattle.angles.proofs.scale.scaled_by.Tie as tie
 
 held : (c : tie.Start) → T (fits binary32 (c .args .x))
 held c = subst T (sym (c .good .1 .0 .1)) tt
-
-no-nan : (x : Float) → T (finite x) → T (not (isNan x))
-unfolding isNan
-no-nan nan h = h
-no-nan (inf s) h = tt
-no-nan (fin s m e) h = tt
 
 field-le : (c : tie.Start) → bits (c .args .x) / 2 ^ 23 ≤ 190 - c .args .k
 field-le c = exponent-le (c .args .k) (c .args .x) (c .pre .0) (held c) (c .pre .1 .0) (c .pre .1 .1)
@@ -35,7 +28,7 @@ shift-is c = unwrapped (c .wrapping-sub-u64 .result) (190 - c .before .args .k) 
     unwrapped r a e h k l q = omega arith
 
 float-to-bits-b : tie.Need-float-to-bits-b
-float-to-bits-b c = no-nan (c .args .x) (c .pre .1 .0)
+float-to-bits-b c = finite-number (c .args .x) (c .pre .1 .0)
 
 cast-b : tie.Need-cast-b
 cast-b c = let h = mask-lt (toBits binary32 (c .args .x)) 31 in record { fits = omega arith }

@@ -1,0 +1,99 @@
+// Translated from hfcast-engine (commit bf34e8f9f3), src/voacap/modes.rs lines 195 to 206 and 909 to 1040, and changed.
+ghost use mathlib.Core.Path.{_≡_};
+ghost use Rattle.fdist.specs.Fdist.{checkOf, numberOf, refusedOf, fdistOf};
+use findf::Reflectrix;
+
+mod pairs;
+mod rays;
+mod search;
+
+// Up to six rays of one hop length.
+#[repr(C)]
+pub struct HopModes {
+    pub delmod: [f32; 6],
+    pub hpmod: [f32; 6],
+    pub htmod: [f32; 6],
+    pub fvmod: [f32; 6],
+    pub itmod: [u32; 6],
+    pub afmod: [f32; 6],
+}
+
+// The slots; beside them 0 or the number of the limit that refuses, the pairs tried, and the rays: the slots that were accepted.
+#[repr(C)]
+pub struct Searched {
+    pub refusal: u32,
+    pub pairs: u32,
+    pub rays: u32,
+    pub m: HopModes,
+}
+
+// The answer of one limit: the value that it lets pass, or the number of the refusal.
+enum Checked {
+    Within(f32),
+    Broken(u32),
+}
+
+fn check(number: u32, within: bool, x: f32) -> Checked
+    ensures { λ r. ⌜ r ≡ checkOf number within x ⌝ }
+{
+    if within {
+        Checked::Within(x)
+    } else {
+        Checked::Broken(number)
+    }
+}
+
+fn number(c: Checked) -> u32
+    ensures { λ r. ⌜ r ≡ numberOf c ⌝ }
+{
+    match c {
+        Checked::Within(_) => 0,
+        Checked::Broken(n) => n,
+    }
+}
+
+// Refused: the slots as they were.
+fn refused(m: HopModes, refusal: u32) -> Searched
+    ensures { λ r. ⌜ r ≡ refusedOf m refusal ⌝ }
+{
+    Searched {
+        refusal,
+        pairs: 0,
+        rays: 0,
+        m,
+    }
+}
+
+// The rays of the hop length ghop, an angle at the Earth's centre in radians.
+pub fn fdist(m: HopModes, rfx: Reflectrix, ghop: f32, amind: f32, freq: f32) -> Searched
+    ensures { λ r. ⌜ r ≡ fdistOf m rfx ghop amind freq ⌝ }
+{
+    let checked_freq = check(limits::REFUSAL_FREQ, limits::freq_within(freq), freq);
+    let Checked::Within(freq) = checked_freq else {
+        return refused(m, number(checked_freq));
+    };
+    let checked_amind = check(limits::REFUSAL_AMIND, limits::amind_within(amind), amind);
+    let Checked::Within(amind) = checked_amind else {
+        return refused(m, number(checked_amind));
+    };
+    let checked_ghop = check(limits::REFUSAL_GHOP, limits::ghop_within(ghop), ghop);
+    let Checked::Within(ghop) = checked_ghop else {
+        return refused(m, number(checked_ghop));
+    };
+    let dhopkm = ghop * arith::RZ;
+    if dhopkm >= rfx.dmaxkm {
+        return search::none();
+    }
+    search::search(
+        &rfx.delfx,
+        &rfx.hpflx,
+        &rfx.htflx,
+        &rfx.gdflx,
+        &rfx.fvflx,
+        &rfx.afflx,
+        &rfx.imode,
+        dhopkm,
+        amind,
+        freq,
+    )
+}

@@ -1,0 +1,6 @@
+pub mod Entry
+pub mod Cut
+pub mod Accepted
+pub mod Steps
+pub mod Answers
+pub mod Fills

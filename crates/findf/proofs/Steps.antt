@@ -1,0 +1,44 @@
+-- What the calls of each label ensure comes to the step of the definition.
+use mathlib.Core.Path.{_≡_, refl, ap, _∙_}
+use mathlib.Core.Bool.{false}
+use lib.Ieee.{Float}
+use Rattle.arith.specs.Run.{more, done, stopBy, until}
+use Rattle.findf.specs.Walk.{searchOf, nextLayerOf, nextCuspOf, filledOf, doneAt}
+use Rattle.findf.specs.Rows.{rowOf, skipOf, skipIn, farOf, putOf}
+use Rattle.findf.specs.Findf.{Inputs, State, fillOf, stepBy, stepOf, turnOf}
+use Rattle.findf.specs.declared.walk.Walk.{Walk}
+use Rattle.findf.specs.declared.walk.Label as L
+use Rattle.findf.specs.declared.walk.Label.the-variants.{Search, NextLayer, Fill, NextCusp, Done}
+use Rattle.findf.specs.declared.walk.Fill as F
+use Rattle.findf.specs.declared.rows.Row.{Row}
+use Rattle.findf.specs.declared.rows.Skip.{Skip}
+use Rattle.findf.specs.declared.Reflectrix.{Reflectrix}
+
+module _ (e : Inputs) (w : Walk) (r : Reflectrix) where
+  -- the turn, once the label is known, and the step from it
+  turns : {s : State} (l : L.Label) → w .label ≡ l → doneAt l ≡ false → stepBy e l w r ≡ s → turnOf e (w, r) ≡ more s
+  unfolding stepOf until
+  turns l p d q = ap (λ (x : L.Label). stopBy (doneAt x) (w, r) (stepBy e x w r)) p ∙ rw d (ap more q)
+
+  pub searches : {v : Walk} → w .label ≡ Search → v ≡ searchOf (e .ifob) (e .delpen) (e .jfhz) (e .nang) w → turnOf e (w, r) ≡ more (v, r)
+  unfolding stepBy
+  searches p v = turns Search p refl (simp (← v))
+
+  pub next-layers : {v : Walk} → w .label ≡ NextLayer → v ≡ nextLayerOf (e .fi1) w → turnOf e (w, r) ≡ more (v, r)
+  unfolding stepBy
+  next-layers p v = turns NextLayer p refl (simp (← v))
+
+  pub next-cusps : {v : Walk} → w .label ≡ NextCusp → v ≡ nextCuspOf (e .delpen) w → turnOf e (w, r) ≡ more (v, r)
+  unfolding stepBy
+  next-cusps p v = turns NextCusp p refl (simp (← v))
+
+  pub fills : {fill : F.Fill} {v : Walk} {t : Row} {s : Skip} {d : Float} → w .label ≡ Fill fill
+      → t ≡ rowOf (e .fvert) (e .hprim) (e .htrue) (e .afac) (e .ifob) (e .delpen) (r .delfx) (e .fi1) (e .fc2) (e .freq) (e .jfhz) fill w
+      → s ≡ skipOf (skipIn r) t (w .il) → d ≡ farOf (r .dmaxkm) (t .gdr) (t .del) (e .amind) → v ≡ filledOf fill w
+      → turnOf e (w, r) ≡ more (v, putOf r (w .rows) t s d)
+  unfolding stepBy fillOf
+  fills {fill} p t s d v = turns (Fill fill) p refl (simp (← t, ← s, ← d, ← v))
+
+  pub ends : w .label ≡ Done → turnOf e (w, r) ≡ done (w, r)
+  unfolding until
+  ends p = simp (p)

@@ -1,0 +1,14 @@
+use Rattle.findf.specs.Rows.{rcosdOf}
+use borrow.Author.Needs.{needs}
+use Rattle.findf.proofs.rows.rcosd.Statement.{statement}
+use Rattle.findf.proofs.rows.rcosd.Tie as tie
+
+cos-requires : tie.Need-cos-requires
+cos-requires c κs = search needs
+
+returns : tie.Need-returns
+unfolding rcosdOf
+returns c = cc
+
+pub rcosd-spec : {M : Type 1} → statement M
+rcosd-spec = tie.close (tie.spec cos-requires returns)

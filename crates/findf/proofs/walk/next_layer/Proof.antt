@@ -1,0 +1,31 @@
+use borrow.Author.Tests.{eq-eqb, ne-eqb}
+use Rattle.findf.specs.Walk.{nextLayerOf, nextLayerBy}
+use borrow.Author.Needs.{needs}
+use Rattle.findf.proofs.walk.next_layer.Statement.{statement}
+use Rattle.findf.proofs.walk.next_layer.Tie as tie
+
+returns : tie.Need-returns
+unfolding nextLayerOf nextLayerBy
+returns c = simp (eq-eqb _ _ (c .before .if1 .taken), c .if2 .taken)
+
+returns-2 : tie.Need-returns-2
+unfolding nextLayerOf nextLayerBy
+returns-2 c = simp (eq-eqb _ _ (c .before .if1 .taken), c .if2 .left)
+
+add-t9 : tie.Need-add-t9
+add-t9 c = search needs
+
+returns-3 : tie.Need-returns-3
+unfolding nextLayerOf nextLayerBy
+returns-3 c = simp (ne-eqb _ _ (c .before .before .if1 .left), eq-eqb _ _ (c .before .if3 .taken))
+
+with-label-requires : tie.Need-with-label-requires
+with-label-requires c κs = search needs
+
+returns-4 : tie.Need-returns-4
+unfolding nextLayerOf nextLayerBy
+returns-4 c = simp (ne-eqb _ _ (c .before .before .if1 .left), ne-eqb _ _ (c .before .if3 .left), ← c .with-label .ensures)
+
+pub next-layer-spec : {M : Type 1} → statement M
+next-layer-spec =
+    tie.close (tie.spec returns returns-2 add-t9 returns-3 with-label-requires returns-4)

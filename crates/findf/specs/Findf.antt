@@ -1,0 +1,167 @@
+-- findf, modes.rs lines 670 to 904: the walk as steps, its start, and the limits before it. Document 01: "A walk is one run of `findf`"; its looks are
+-- "the turns of the inner loop", its rows "those written".
+use Prim.Native.Nat.{ℕ, zero, suc}
+use mathlib.Core.Bool.{Bool, true, false}
+use mathlib.Core.List.{List, [], _∷_}
+use lib.ListN.{getD, replicate}
+use lib.IntN.{ℤ}
+use lib.Ieee.{Float, nan, toUnsigned, neg}
+use Rattle.arith.specs.Floats.{f32, _⊗_}
+use Rattle.arith.specs.Run.{Next, run, until}
+use Rattle.limits.specs.Limits.{broken, refusalK, kWithin, refusalNang, nangWithin, refusalFreq, freqWithin, refusalAmind, amindWithin, refusalFi, fiWithin, refusalTable, refusalIfob}
+use Rattle.findf.specs.Penang.{0·0, 1·0, penangOf}
+use Rattle.findf.specs.Walk.{searchOf, nextLayerOf, nextCuspOf, filledOf, doneAt, start}
+use Rattle.findf.specs.Rows.{rowOf, putRow}
+use Rattle.findf.specs.Checks.{rowsWithin, entriesWithin}
+use Rattle.findf.specs.declared.penang.Penetration.{Penetration}
+use Rattle.findf.specs.declared.walk.Walk.{Walk}
+use Rattle.findf.specs.declared.walk.Label.{Label}
+use Rattle.findf.specs.declared.walk.Label.the-variants.{Search, NextLayer, Fill, NextCusp, Done}
+use Rattle.findf.specs.declared.walk.Fill as F
+use Rattle.findf.specs.declared.Reflectrix.{Reflectrix}
+use Rattle.findf.specs.declared.Walked.{Walked}
+
+-- what the walk reads
+pub record Inputs : Type 0 where
+  pub nang : ℕ
+  pub freq : Float
+  pub amind : Float
+  pub jfhz : ℕ
+  pub fi1 : Float
+  pub fc2 : Float
+  pub delpen : List Float
+  pub fvert : List Float
+  pub hprim : List Float
+  pub htrue : List Float
+  pub afac : List Float
+  pub ifob : List ℤ
+
+abbrev pub inputsOf : ℕ → Float → Float → ℕ → Float → Float → List Float → List Float → List Float → List Float → List Float → List ℤ → Inputs
+inputsOf nang freq amind jfhz fi1 fc2 delpen fvert hprim htrue afac ifob =
+    record {
+      nang = nang;
+      freq = freq;
+      amind = amind;
+      jfhz = jfhz;
+      fi1 = fi1;
+      fc2 = fc2;
+      delpen = delpen;
+      fvert = fvert;
+      hprim = hprim;
+      htrue = htrue;
+      afac = afac;
+      ifob = ifob;
+    }
+
+-- a state of the walk: what the search knows, and the reflectrix as written so far
+abbrev pub State : Type 0
+State = Walk × Reflectrix
+
+-- the reflectrix once the row of a fill is written (lines 810 to 889)
+unfoldable pub fillOf : Inputs → F.Fill → Walk → Reflectrix → Reflectrix
+fillOf e fill w r =
+    putRow (e .amind) (w .rows) (w .il) r
+    (rowOf (e .fvert) (e .hprim) (e .htrue) (e .afac) (e .ifob) (e .delpen) (r .delfx) (e .fi1) (e .fc2) (e .freq) (e .jfhz) fill w)
+
+-- One step is one turn of the Rust's label loop with its looks (lines 725 to 903). Done is a fixed point: the turn that finds Done is no step.
+unfoldable pub stepBy : Inputs → Label → Walk → Reflectrix → State
+stepBy e Search w r = (searchOf (e .ifob) (e .delpen) (e .jfhz) (e .nang) w, r)
+stepBy e NextLayer w r = (nextLayerOf (e .fi1) w, r)
+stepBy e NextCusp w r = (nextCuspOf (e .delpen) w, r)
+stepBy e (Fill fill) w r = (filledOf fill w, fillOf e fill w r)
+stepBy e Done w r = (w, r)
+
+-- the step of a state, by its label; defined for every state
+unfoldable pub stepOf : Inputs → State → State
+stepOf e s = stepBy e (s .0 .label) (s .0) (s .1)
+
+-- the turn of the loop: it ends at Done
+abbrev pub turnOf : Inputs → State → Next State State
+turnOf e = until (λ s. doneAt (s .0 .label)) (stepOf e)
+
+-- The steps from the start until Done, 430 at most, which no walk takes: more of them, or another answer for want of them, would change nothing
+-- (StepLaws, `walk-same`; `walk-iterate`: it is the step iterated).
+unfoldable pub walkOf : Inputs → Reflectrix → State
+walkOf e r = run (turnOf e) (start, r) 430 (start, r)
+
+-- no refusal, the looks, and the reflectrix as the walk leaves it
+abbrev pub answer : State → Walked
+answer s = record { refusal = 0; looks = s .0 .looks; rfx = s .1 }
+
+unfoldable pub walkedOf : Inputs → Reflectrix → Walked
+walkedOf e r = answer (walkOf e r)
+
+-- "jfhz is 1000 × freq cut towards zero" (line 683); 1000.0 by its bits
+unfoldable pub jfhzOf : Float → ℕ
+jfhzOf freq = toUnsigned 64 (f32 0x447a_0000 ⊗ freq)
+
+-- −1 where penang says so (lines 665 to 666)
+abbrev pub unlessOf : Bool → Float → Float
+unlessOf true x = neg 1·0
+unlessOf false x = x
+
+-- lines 686 to 690
+abbrev pub zeros : List Float
+zeros = replicate 45 0·0
+
+-- lines 684 to 696: "It first sets dmaxkm 0, dskpkm 10000, and hpflx, delfx, gdflx to 0 in all 45 rows; every other field keeps its old contents
+-- until written", and the row count to 0; then penang (10000.0 by its bits)
+abbrev pub begun : Reflectrix → Penetration → Reflectrix
+begun r p =
+    record {
+      delfx = zeros;
+      hpflx = zeros;
+      htflx = r .htflx;
+      gdflx = zeros;
+      fvflx = r .fvflx;
+      afflx = r .afflx;
+      imode = r .imode;
+      dskpkm = unlessOf (p .dead) (f32 0x461c_4000);
+      delskp = r .delskp;
+      hpskp = r .hpskp;
+      htskp = r .htskp;
+      dmaxkm = unlessOf (p .dead) 0·0;
+      fvskp = r .fvskp;
+      iskp = r .iskp;
+      delpen = p .delpen;
+      iaftxr = r .iaftxr;
+      «rows_this_call» = 0;
+    }
+
+-- fc2 is the square of fi's third number (line 692)
+abbrev pub begunWalk : Reflectrix → ℕ → Float → Float → Float → Float → List Float → List Float → List Float → List Float → List ℤ → Penetration → Walked
+begunWalk r nang freq amind fi1 fi2 fvert hprim htrue afac ifob p =
+    walkedOf (inputsOf nang freq amind (jfhzOf freq) fi1 (fi2 ⊗ fi2) (p .delpen) fvert hprim htrue afac ifob) (begun r p)
+
+-- an accepted job
+unfoldable pub startedOf : Reflectrix → ℕ → Float → Float → Float → Float → List Float → List Float → List Float → List Float → List ℤ → Walked
+startedOf r nang freq amind fi1 fi2 fvert hprim htrue afac ifob =
+    begunWalk r nang freq amind fi1 fi2 fvert hprim htrue afac ifob (penangOf fvert htrue fi1 freq)
+
+-- "`findf` by value checks 3 to 6, 8 to 10", in this order
+unfoldable pub limitsOf : ℕ → ℕ → Float → Float → List Float → List Float → List Float → List Float → List Float → List ℤ → List (ℕ × Bool)
+limitsOf k nang freq amind point fvert hprim htrue afac ifob =
+    (refusalK, kWithin k)
+    ∷ (refusalNang, nangWithin nang)
+    ∷ (refusalFreq, freqWithin freq)
+    ∷ (refusalAmind, amindWithin amind)
+    ∷ (refusalFi, fiWithin (getD point 1 nan) (getD point 2 nan))
+    ∷ (refusalTable, rowsWithin fvert hprim htrue afac 30)
+    ∷ (refusalIfob, entriesWithin ifob 1200)
+    ∷ []
+
+-- "a refusal changes nothing lent or passed"
+abbrev pub refusedOf : ℕ → Reflectrix → Walked
+refusedOf refusal r = record { refusal = refusal; looks = 0; rfx = r }
+
+-- the number of the broken limit, 0 where none is, decides
+unfoldable pub unlessRefused : ℕ → Reflectrix → Walked → Walked
+unlessRefused zero r a = a
+unlessRefused (suc n) r a = refusedOf (suc n) r
+
+-- findf by value: `point` is the inner array of point k
+unfoldable pub findfOf : Reflectrix → ℕ → ℕ → Float → Float → List (List Float) → List Float → List Float → List Float → List Float → List ℤ → Walked
+findfOf r k nang freq amind fi fvert hprim htrue afac ifob =
+    let point = getD fi k [] in
+    unlessRefused (broken (limitsOf k nang freq amind point fvert hprim htrue afac ifob)) r
+    (startedOf r nang freq amind (getD point 1 nan) (getD point 2 nan) fvert hprim htrue afac ifob)

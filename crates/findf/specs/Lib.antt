@@ -1,0 +1,12 @@
+pub mod Penang
+pub mod Look
+pub mod LookLaws
+pub mod Walk
+pub mod Safe
+pub mod Rows
+pub mod Checks
+pub mod Findf
+pub mod WalkLaws
+pub mod StepLaws
+pub mod RowsLaws
+pub mod FindfLaws

@@ -1,0 +1,62 @@
+-- What a state must satisfy for the code of its label to stay inside the tables: ranges alone, which a program can test.
+use Prim.Native.Nat.{ℕ, _+_, _≤_}
+use Rattle.findf.specs.declared.walk.Walk.{Walk}
+use Rattle.findf.specs.declared.walk.Label.{Label}
+use Rattle.findf.specs.declared.walk.Label.the-variants.{Search, NextLayer, Fill, NextCusp, Done}
+use Rattle.findf.specs.declared.walk.Fill.the-variants.{Exact, Interp, Cusp, NextCusp360}
+
+-- 1 where an angle is taken
+abbrev pub takes : Label → ℕ
+takes (Fill Exact) = 1
+takes (Fill Interp) = 1
+takes (Fill Cusp) = 1
+takes (Fill NextCusp360) = 0
+takes Search = 0
+takes NextLayer = 0
+takes NextCusp = 0
+takes Done = 0
+
+-- 1 where the row after ih is read too
+abbrev pub pairs : Label → ℕ
+pairs (Fill Exact) = 0
+pairs (Fill Interp) = 1
+pairs (Fill Cusp) = 0
+pairs (Fill NextCusp360) = 0
+pairs Search = 0
+pairs NextLayer = 0
+pairs NextCusp = 0
+pairs Done = 0
+
+-- 1 where the row after ihigh and the row written last are read
+abbrev pub follows : Label → ℕ
+follows (Fill Exact) = 0
+follows (Fill Interp) = 0
+follows (Fill Cusp) = 0
+follows (Fill NextCusp360) = 1
+follows Search = 0
+follows NextLayer = 0
+follows NextCusp = 0
+follows Done = 0
+
+-- 1 where a row is to be written
+abbrev pub due : Label → ℕ
+due (Fill fill) = 1
+due Search = 0
+due NextLayer = 0
+due NextCusp = 0
+due Done = 0
+
+-- The label stands as an argument of its own, beside the state that has it, so that a proof can go by its cases.
+pub record Safe (l : Label) (w : Walk) : Type 0 where
+  pub ia-low : takes l ≤ w .ia
+  pub ia-cap : w .ia ≤ 40
+  pub il-low : 1 ≤ w .il
+  pub il-cap : w .il ≤ 3
+  pub ih-low : 1 ≤ w .ih
+  pub ih-cap : w .ih + pairs l ≤ w .ihigh
+  pub ihigh-cap : w .ihigh + follows l ≤ 30
+  pub ilow-low : 1 ≤ w .ilow
+  pub ilow-cap : w .ilow ≤ 30
+  pub rows-low : follows l ≤ w .rows
+  pub rows-cap : w .rows + due l ≤ 45
+  pub looks-cap : w .looks ≤ 100000

@@ -1,0 +1,255 @@
+// Translated from hfcast-engine (commit bf34e8f9f3), src/voacap/modes.rs lines 810 to 887, and changed.
+// The row that a fill writes, and the skip and farthest distances after it.
+ghost use mathlib.Core.Path.{_≡_};
+ghost use Prim.Native.Nat.{_+_, _-_, _*_, _≤_, _<_};
+ghost use Rattle.findf.specs.Look.{Entries};
+ghost use Rattle.findf.specs.Rows.{gapOf, slopeOf, rawAt, rawBetween, nextModeOf, modeOf, rawOf, rcosdOf, correctedOf, rowOf, skipOf, farOf};
+ghost use Rattle.findf.specs.Safe.{Safe};
+use super::look;
+use super::walk;
+use super::walk::Fill;
+use super::walk::Label;
+use super::walk::Walk;
+use arith::D2R;
+use arith::PIO2;
+use arith::RZ;
+
+pub(crate) struct Raw {
+    pub del: f32,
+    pub ht: f32,
+    pub fv: f32,
+    pub hp: f32,
+    pub af: f32,
+}
+
+pub(crate) struct Corrected {
+    pub hp: f32,
+    pub gdr: f32,
+}
+
+pub(crate) struct Row {
+    pub del: f32,
+    pub hp: f32,
+    pub ht: f32,
+    pub gdr: f32,
+    pub fv: f32,
+    pub af: f32,
+    pub mode: u32,
+}
+
+pub(crate) struct Skip {
+    pub dskpkm: f32,
+    pub delskp: f32,
+    pub hpskp: f32,
+    pub htskp: f32,
+    pub fvskp: f32,
+    pub iskp: u32,
+}
+
+// a - b as a float.
+fn gap(a: u32, b: u32) -> f32
+    requires { ⌜ (a ≤ 99999) × (b ≤ 99999) ⌝ }
+    ensures { λ r. ⌜ r ≡ gapOf a b ⌝ }
+{
+    if a >= b {
+        (a - b) as f32
+    } else {
+        -((b - a) as f32)
+    }
+}
+
+fn slope(lo: u32, hi: u32, jfhz: u32) -> f32
+    requires { ⌜ (lo ≤ 99999) × ((hi ≤ 99999) × (jfhz ≤ 99999)) ⌝ }
+    ensures { λ r. ⌜ r ≡ slopeOf lo hi jfhz ⌝ }
+{
+    let slopd = arith::max(gap(hi, lo), 1.0);
+    gap(jfhz, lo) / slopd
+}
+
+fn raw_at(
+    fvert: &[f32; 30],
+    hprim: &[f32; 30],
+    htrue: &[f32; 30],
+    afac: &[f32; 30],
+    h: usize,
+    del: f32,
+) -> Raw
+    requires { ⌜ h < 30 ⌝ }
+    ensures { λ r. ⌜ r ≡ rawAt (now (fvert .entry)) (now (hprim .entry)) (now (htrue .entry)) (now (afac .entry)) h del ⌝ }
+{
+    Raw {
+        del: del,
+        ht: htrue[h],
+        fv: fvert[h],
+        hp: hprim[h],
+        af: afac[h],
+    }
+}
+
+fn raw_between(
+    fvert: &[f32; 30],
+    hprim: &[f32; 30],
+    htrue: &[f32; 30],
+    afac: &[f32; 30],
+    h: usize,
+    del: f32,
+    slope: f32,
+) -> Raw
+    requires { ⌜ h + 1 < 30 ⌝ }
+    ensures { λ r. ⌜ r ≡ rawBetween (now (fvert .entry)) (now (hprim .entry)) (now (htrue .entry)) (now (afac .entry)) h del slope ⌝ }
+{
+    Raw {
+        del: del,
+        ht: htrue[h] + slope * (htrue[h + 1] - htrue[h]),
+        fv: fvert[h] + slope * (fvert[h + 1] - fvert[h]),
+        hp: hprim[h] + slope * (hprim[h + 1] - hprim[h]),
+        af: afac[h] + slope * (afac[h + 1] - afac[h]),
+    }
+}
+
+// The layer that the row is of; after a cusp, the next one.
+fn mode(fill: Fill, il: u32, fi1: f32) -> u32
+    requires { ⌜ il ≤ 3 ⌝ }
+    ensures { λ r. ⌜ r ≡ modeOf fill il fi1 ⌝ }
+{
+    match fill {
+        Fill::Exact => il,
+        Fill::Interp => il,
+        Fill::Cusp => il,
+        Fill::NextCusp360 => next_mode(il, fi1),
+    }
+}
+
+fn next_mode(il: u32, fi1: f32) -> u32
+    requires { ⌜ il ≤ 3 ⌝ }
+    ensures { λ r. ⌜ r ≡ nextModeOf il fi1 ⌝ }
+{
+    if fi1 <= 0.0 { 3 } else { il + 1 }
+}
+
+fn raw_of(
+    fvert: &[f32; 30],
+    hprim: &[f32; 30],
+    htrue: &[f32; 30],
+    afac: &[f32; 30],
+    ifob: &[i32; 1200],
+    delpen: &[f32; 3],
+    delfx: &[f32; 45],
+    jfhz: u32,
+    fill: Fill,
+    w: Walk,
+) -> Raw
+    requires { ⌜ Entries (now ifob) × ((jfhz ≤ 99999) × Safe (Label.Fill fill) w) ⌝ }
+    ensures { λ r. ⌜ r ≡ rawOf (now (fvert .entry)) (now (hprim .entry)) (now (htrue .entry)) (now (afac .entry)) (now (ifob .entry)) (now (delpen .entry)) (now (delfx .entry)) jfhz fill w ⌝ }
+{
+    let ia = w.ia;
+    let ih = w.ih;
+    let il = w.il;
+    let ihigh = w.ihigh;
+    let i = w.rows;
+    match fill {
+        Fill::Exact => raw_at(fvert, hprim, htrue, afac, ih - 1, walk::ang(ia - 1)),
+        Fill::Interp => {
+            let at = (ia - 1) * 30 + ih;
+            let s = slope(look::entry(ifob, at - 1), look::entry(ifob, at), jfhz);
+            raw_between(fvert, hprim, htrue, afac, ih - 1, walk::ang(ia - 1), s)
+        }
+        Fill::Cusp => raw_at(fvert, hprim, htrue, afac, ihigh - 1, delpen[il - 1]),
+        Fill::NextCusp360 => raw_at(fvert, hprim, htrue, afac, ihigh, delfx[i - 1] + 0.001),
+    }
+}
+
+// RZ times the cosine of the row's angle.
+fn rcosd(label: Fill, ia: usize, del: f32) -> f32
+    ensures { λ r. ⌜ r ≡ rcosdOf label ia del ⌝ }
+{
+    RZ * angles::cos(del)
+}
+
+// The Martyn correction for a spherical ionosphere: the corrected virtual height and the hop length.
+fn martyn(freq: f32, fc2: f32, del: f32, rcosd: f32, ht: f32, fv: f32, hp: f32) -> Corrected
+    ensures { λ r. ⌜ r ≡ correctedOf freq fc2 del rcosd ht fv hp ⌝ }
+{
+    let xfsq = freq * freq / fc2;
+    let xmut = 1.0 - fv * fv / (freq * freq);
+    let xhp = (hp - ht) / RZ;
+    let sph = xfsq * xmut * xhp * (ht + 2.0 * (RZ + ht) * xhp);
+    let high = hp + sph;
+    let phe = angles::asin(rcosd / (RZ + high));
+    let gdr = 2.0 * RZ * (PIO2 - del - phe);
+    Corrected { hp: high, gdr: gdr }
+}
+
+pub(crate) fn row_of(
+    fvert: &[f32; 30],
+    hprim: &[f32; 30],
+    htrue: &[f32; 30],
+    afac: &[f32; 30],
+    ifob: &[i32; 1200],
+    delpen: &[f32; 3],
+    delfx: &[f32; 45],
+    fi1: f32,
+    fc2: f32,
+    freq: f32,
+    jfhz: u32,
+    fill: Fill,
+    w: Walk,
+) -> Row
+    requires { ⌜ Entries (now ifob) × ((jfhz ≤ 99999) × Safe (Label.Fill fill) w) ⌝ }
+    ensures { λ r. ⌜ r ≡ rowOf (now (fvert .entry)) (now (hprim .entry)) (now (htrue .entry)) (now (afac .entry)) (now (ifob .entry)) (now (delpen .entry)) (now (delfx .entry)) fi1 fc2 freq jfhz fill w ⌝ }
+{
+    let a = raw_of(
+        fvert,
+        hprim,
+        htrue,
+        afac,
+        ifob,
+        delpen,
+        delfx,
+        jfhz,
+        fill,
+        w,
+    );
+    let del = a.del * D2R;
+    let m = martyn(freq, fc2, del, rcosd(fill, w.ia, del), a.ht, a.fv, a.hp);
+    let il = w.il;
+    let mode = mode(fill, il as u32, fi1);
+    Row {
+        del: a.del,
+        hp: m.hp,
+        ht: a.ht,
+        gdr: m.gdr,
+        fv: a.fv,
+        af: a.af,
+        mode: mode,
+    }
+}
+
+// The skip figures after a row; `il` is the layer of the walk, also at a row of the next one.
+pub(crate) fn skip_of(s: Skip, t: Row, il: u32) -> Skip
+    ensures { λ r. ⌜ r ≡ skipOf s t il ⌝ }
+{
+    if s.dskpkm > t.gdr {
+        return Skip {
+            dskpkm: t.gdr,
+            delskp: t.del,
+            hpskp: t.hp,
+            htskp: t.ht,
+            fvskp: t.fv,
+            iskp: il,
+        };
+    }
+    s
+}
+
+// The farthest hop after a row.
+pub(crate) fn far(dmaxkm: f32, gdr: f32, del: f32, amind: f32) -> f32
+    ensures { λ r. ⌜ r ≡ farOf dmaxkm gdr del amind ⌝ }
+{
+    if dmaxkm <= gdr {
+        if del >= amind {
+            return gdr;
+        }
+    }
+    dmaxkm
+}
