@@ -39,9 +39,9 @@ fn link_libraries() {
     }
 }
 
-/// Writes three files: the items that call no angle function, and the others as they come and
-/// led to the library. Sets cfg(oracle). Where the source is not at hand the oracle is left
-/// out, but not in CI.
+/// Writes four files: the items that call no angle function, and the others as they come, led to
+/// the library, and led and counted. Sets cfg(oracle). Where the source is not at hand the oracle
+/// is left out, but not in CI.
 fn make_oracle() {
     println!("cargo:rerun-if-env-changed=CI");
     let source = directory("HFCAST_SRC", "../../shared/docs/src");
@@ -51,7 +51,8 @@ fn make_oracle() {
         println!("cargo:warning={missing}; the tests against it are skipped");
         return;
     }
-    let (mut once, mut as_it_comes, mut led) = (String::new(), String::new(), String::new());
+    let [mut once, mut as_it_comes, mut led, mut counted] = [const { String::new() }; 4];
+    let counts = slices::parse_counts(include_str!("oracle/counts.txt"));
     for slice in slices::parse(include_str!("oracle/slices.txt")) {
         let file = source.join(slice.file);
         println!("cargo:rerun-if-changed={}", file.display());
@@ -60,14 +61,17 @@ fn make_oracle() {
         let led_text = slice.lead(&text).unwrap_or_else(|e| panic!("{e}"));
         if slice.has_angle_calls() {
             as_it_comes += &text;
+            counted += &slice.count(&led_text, &counts).unwrap_or_else(|e| panic!("{e}"));
             led += &led_text;
         } else {
             once += &text;
         }
     }
     let out = PathBuf::from(env::var_os("OUT_DIR").unwrap());
-    for (name, text) in [("once.rs", once), ("as_it_comes.rs", as_it_comes), ("led.rs", led)] {
-        fs::write(out.join(name), text).unwrap();
+    for (name, text) in
+        [("once", once), ("as_it_comes", as_it_comes), ("led", led), ("counted", counted)]
+    {
+        fs::write(out.join(name).with_extension("rs"), text).unwrap();
     }
     println!("cargo:rustc-cfg=oracle");
 }

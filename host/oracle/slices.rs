@@ -1,4 +1,5 @@
-//! Cuts the oracle out of the Rust source: the items of slices.txt, checked by their digests.
+//! Cuts the oracle out of the Rust source: the items of slices.txt, checked by their digests, and
+//! counted as counts.txt tells.
 
 use crate::sha256::sha256;
 
@@ -28,6 +29,24 @@ pub fn parse(table: &str) -> Vec<Slice<'_>> {
                 sha256,
             },
             _ => panic!("not a line of six fields: {line}"),
+        })
+        .collect()
+}
+
+/// One line of counts.txt.
+pub struct Count<'a> {
+    item: &'a str,
+    counter: &'a str,
+    line: &'a str,
+}
+
+pub fn parse_counts(table: &str) -> Vec<Count<'_>> {
+    let lines = table.lines().filter(|l| !l.starts_with('#'));
+    lines
+        .map(|line| {
+            let (item, rest) = line.split_once(' ').expect("an item");
+            let (counter, line) = rest.trim_start().split_once(' ').expect("a counter");
+            Count { item, counter, line: line.trim_start() }
         })
         .collect()
 }
@@ -72,5 +91,26 @@ impl Slice<'_> {
             return Err(format!("{item}: angle calls {calls} where {angle_calls} is expected"));
         }
         Ok(led)
+    }
+
+    /// The slice with `count(&COUNTER);` before each line that is to be counted. Such a line must
+    /// stand in the slice once.
+    pub fn count(&self, text: &str, counts: &[Count]) -> Result<String, String> {
+        let mut counted = text.to_string();
+        for Count { counter, line, .. } in counts.iter().filter(|count| count.item == self.item) {
+            let found = text.lines().filter(|l| l.trim() == *line).count();
+            if found != 1 {
+                return Err(format!("{}: {found} lines `{line}` where 1 is expected", self.item));
+            }
+            let before = |l: &str| {
+                if l.trim() == *line {
+                    format!("count(&{counter});\n")
+                } else {
+                    String::new()
+                }
+            };
+            counted = counted.split_inclusive('\n').map(|l| before(l) + l).collect();
+        }
+        Ok(counted)
     }
 }

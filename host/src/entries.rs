@@ -1,5 +1,7 @@
 //! The library's C entry points: the one place that knows their form.
 
+use crate::record::fields;
+
 /// What `prbmuf` reads of an hour: the deciles of the layers E, F1, F2 and Es.
 #[repr(C)]
 #[derive(Clone, Copy)]
@@ -79,6 +81,98 @@ record! {
     counts: nrel nmmod
 }
 
+fields! {
+    /// What a walk leaves. The Rust's has the columns of its losses besides.
+    Reflectrix {
+        delfx hpflx htflx gdflx fvflx afflx: [f32; 45],
+        imode: [u32; 45],
+        dskpkm delskp hpskp htskp dmaxkm fvskp: f32,
+        iskp: u32,
+        delpen: [f32; 3],
+        iaftxr rows_this_call: usize,
+    }
+}
+
+fields! {
+    /// The six ray slots of one hop length.
+    HopModes {
+        delmod hpmod htmod fvmod: [f32; 6],
+        itmod: [u32; 6],
+        afmod: [f32; 6],
+    }
+}
+
+/// `findf`'s answer, and before the call the reflectrix to start from.
+#[repr(C)]
+#[derive(Clone, Copy)]
+pub struct Walked {
+    pub refusal: u32,
+    pub looks: u32,
+    pub rfx: Reflectrix,
+}
+
+/// `findf`'s other arguments; `fi` point by point, three numbers each, `ifob` angle by angle.
+#[repr(C)]
+#[derive(Clone, Copy)]
+pub struct FindfJob {
+    pub k: usize,
+    pub nang: usize,
+    pub freq: f32,
+    pub amind: f32,
+    pub fi: [f32; 15],
+    pub fvert: [f32; 30],
+    pub hprim: [f32; 30],
+    pub htrue: [f32; 30],
+    pub afac: [f32; 30],
+    pub ifob: [i32; 1200],
+}
+
+/// A call of `findf`: what it reads, and its answer.
+#[repr(C)]
+#[derive(Clone, Copy)]
+pub struct FindfCall {
+    pub job: FindfJob,
+    pub answer: Walked,
+}
+
+/// `fdist`'s answer, and before the call the slots to start from.
+#[repr(C)]
+#[derive(Clone, Copy)]
+pub struct Searched {
+    pub refusal: u32,
+    pub pairs: u32,
+    pub rays: u32,
+    pub m: HopModes,
+}
+
+/// `fdist`'s other arguments.
+#[derive(Clone, Copy)]
+pub struct FdistJob {
+    pub rfx: Reflectrix,
+    pub ghop: f32,
+    pub amind: f32,
+    pub freq: f32,
+}
+
+/// A call of `fdist`: what it reads, field by field, since a record of its own would end in
+/// padding, and its answer.
+#[repr(C)]
+#[derive(Clone, Copy)]
+pub struct FdistCall {
+    pub rfx: Reflectrix,
+    pub ghop: f32,
+    pub amind: f32,
+    pub freq: f32,
+    pub answer: Searched,
+}
+
+impl FdistCall {
+    pub fn new(job: &FdistJob, answer: Searched) -> Self {
+        let FdistJob { rfx, ghop, amind, freq } = *job;
+        FdistCall { rfx, ghop, amind, freq, answer }
+    }
+}
+
 // Safe to call: the functions take any numbers, and of the memory lent they read and write the
 // record alone, during the call alone.
 unsafe extern "C" {
@@ -105,6 +199,14 @@ unsafe extern "C" {
 
     #[link_name = "ray_reset"]
     pub safe fn reset(m: &mut AllModes);
+
+    /// The answer becomes findf of its `rfx` and the job; on a refusal `rfx` is as it was, looks 0.
+    #[link_name = "ray_findf"]
+    pub safe fn findf(call: &mut FindfCall);
+
+    /// The answer becomes fdist of its `m` and the job; on a refusal `m` is as it was, the counts 0.
+    #[link_name = "ray_fdist"]
+    pub safe fn fdist(call: &mut FdistCall);
 
     #[link_name = "ray_sin"]
     pub safe fn sin(x: f32) -> f32;

@@ -2,14 +2,20 @@
 
 pub mod angles;
 pub mod bounds;
+#[cfg(oracle)]
+pub mod differences;
 pub mod entries;
 pub mod exact;
+pub mod fdist;
+pub mod findf;
 pub mod floats;
+pub mod guarded;
 pub mod limits;
 #[cfg(oracle)]
 pub mod oracle;
 pub mod page;
 pub mod prng;
+pub mod record;
 
 // The sliced Rust reads `crate::perf`.
 #[cfg(oracle)]

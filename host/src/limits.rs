@@ -1,6 +1,48 @@
 //! Document 01's limits as the tests compute them, apart from the library.
 
-use crate::entries::{AllModes, Zon};
+use crate::entries::{AllModes, FdistJob, FindfJob, Zon};
+use std::ops::RangeInclusive;
+
+pub const FREQ: RangeInclusive<f32> = 2.0..=30.0;
+pub const AMIND: RangeInclusive<f32> = 0.0..=90.0;
+pub const GHOP: RangeInclusive<f32> = 0.0..=4.0;
+pub const FI_SECOND: RangeInclusive<f32> = 0.0..=100.0;
+pub const FI_THIRD: RangeInclusive<f32> = 0.1..=100.0;
+pub const FVERT: RangeInclusive<f32> = 0.0..=100.0;
+pub const HPRIM: RangeInclusive<f32> = 0.0..=10000.0;
+pub const HTRUE: RangeInclusive<f32> = 0.0..=2000.0;
+pub const AFAC: RangeInclusive<f32> = -1000000.0..=1000000.0;
+pub const IFOB: RangeInclusive<i32> = 0..=99999;
+
+/// The number of the first test that fails, else 0.
+fn first_broken(tests: &[(u32, &dyn Fn() -> bool)]) -> u32 {
+    tests.iter().find(|(_, holds)| !holds()).map_or(0, |(number, _)| *number)
+}
+
+/// The limit that `findf` breaks first, else 0.
+pub fn findf(job: &FindfJob) -> u32 {
+    let all = |column: &[f32], range: RangeInclusive<f32>| column.iter().all(|x| range.contains(x));
+    first_broken(&[
+        (3, &|| job.k <= 4),
+        (4, &|| job.nang <= 40),
+        (5, &|| FREQ.contains(&job.freq)),
+        (6, &|| AMIND.contains(&job.amind)),
+        (8, &|| FI_SECOND.contains(&job.fi[3 * job.k + 1])),
+        (8, &|| FI_THIRD.contains(&job.fi[3 * job.k + 2])),
+        (9, &|| all(&job.fvert, FVERT) && all(&job.hprim, HPRIM)),
+        (9, &|| all(&job.htrue, HTRUE) && all(&job.afac, AFAC)),
+        (10, &|| job.ifob.iter().all(|entry| IFOB.contains(entry))),
+    ])
+}
+
+/// The limit that `fdist` breaks first, else 0.
+pub fn fdist(job: &FdistJob) -> u32 {
+    first_broken(&[
+        (5, &|| FREQ.contains(&job.freq)),
+        (6, &|| AMIND.contains(&job.amind)),
+        (7, &|| GHOP.contains(&job.ghop)),
+    ])
+}
 
 /// The limit that `accumulate` breaks first, else 0: 11, then 12.
 pub fn accumulate(m: &AllModes, zon: &Zon, ist: usize, lst: usize) -> u32 {

@@ -43,6 +43,24 @@ pub struct IonoState {
     pub numerics: Numerics,
 }
 
+impl From<&crate::entries::FindfJob> for IonoState {
+    fn from(job: &crate::entries::FindfJob) -> Self {
+        let point = |k: usize| std::array::from_fn(|i| job.fi[3 * k + i]);
+        IonoState { fi: std::array::from_fn(point), numerics: Numerics }
+    }
+}
+
+impl From<&crate::entries::FindfJob> for AreaTables {
+    fn from(job: &crate::entries::FindfJob) -> Self {
+        let crate::entries::FindfJob { fvert, hprim, htrue, afac, .. } = *job;
+        let column = |ia: usize| std::array::from_fn(|ih| job.ifob[30 * ia + ih]);
+        AreaTables {
+            ion: Ionogram { fvert, hprim, htrue, afac },
+            ifob: std::array::from_fn(column),
+        }
+    }
+}
+
 pub mod perf {
     pub const FINDF: usize = 4;
 
@@ -66,42 +84,64 @@ pub mod as_it_comes {
 /// penang, findf and fdist with their angle calls led to the library under test.
 pub mod led {
     use super::*;
-    use crate::entries;
     include!(concat!(env!("OUT_DIR"), "/led.rs"));
+}
 
-    trait Led {
-        fn ray_sin(self) -> R;
-        fn ray_cos(self) -> R;
-        fn ray_asin(self) -> R;
-        fn ray_acos(self) -> R;
-        fn ray_atan(self) -> R;
+/// The led ones again, with the counts of oracle/counts.txt.
+pub mod counted {
+    use super::*;
+    use std::cell::Cell;
+    use std::thread::LocalKey;
+    include!(concat!(env!("OUT_DIR"), "/counted.rs"));
+
+    thread_local! {
+        static LOOKS: Cell<u32> = const { Cell::new(0) };
+        static PAIRS: Cell<u32> = const { Cell::new(0) };
+        static RAYS: Cell<u32> = const { Cell::new(0) };
     }
 
-    impl Led for R {
-        fn ray_sin(self) -> R {
-            entries::sin(self)
-        }
-
-        fn ray_cos(self) -> R {
-            entries::cos(self)
-        }
-
-        fn ray_asin(self) -> R {
-            entries::asin(self)
-        }
-
-        fn ray_acos(self) -> R {
-            entries::acos(self)
-        }
-
-        fn ray_atan(self) -> R {
-            entries::atan(self)
-        }
+    fn count(counter: &'static LocalKey<Cell<u32>>) {
+        counter.set(counter.get() + 1);
     }
 
-    impl Numerics {
-        fn ray_cos_modes(self, x: R) -> R {
-            entries::cos(x)
-        }
+    /// The looks, pairs and rays of this thread since it last asked.
+    pub fn take_counts() -> [u32; 3] {
+        [LOOKS.take(), PAIRS.take(), RAYS.take()]
+    }
+}
+
+trait Led {
+    fn ray_sin(self) -> R;
+    fn ray_cos(self) -> R;
+    fn ray_asin(self) -> R;
+    fn ray_acos(self) -> R;
+    fn ray_atan(self) -> R;
+}
+
+impl Led for R {
+    fn ray_sin(self) -> R {
+        crate::entries::sin(self)
+    }
+
+    fn ray_cos(self) -> R {
+        crate::entries::cos(self)
+    }
+
+    fn ray_asin(self) -> R {
+        crate::entries::asin(self)
+    }
+
+    fn ray_acos(self) -> R {
+        crate::entries::acos(self)
+    }
+
+    fn ray_atan(self) -> R {
+        crate::entries::atan(self)
+    }
+}
+
+impl Numerics {
+    fn ray_cos_modes(self, x: R) -> R {
+        crate::entries::cos(x)
     }
 }

@@ -1,8 +1,9 @@
-//! Limits 11 to 13: the right number, and nothing changed.
+//! Limits 3 to 13: the right number, and nothing changed.
 
-use host::entries::{self, AllModes, MufHour, Zon};
-use host::limits;
+use host::entries::{self, AllModes, FindfJob, HopModes, MufHour, Reflectrix, Zon};
+use host::guarded::Guarded;
 use host::prng::Prng;
+use host::{fdist, findf, floats, limits};
 
 const LAYERS_OUTSIDE: [usize; 6] = [0, 5, 6, 1 << 32, usize::MAX - 1, usize::MAX];
 const COUNTS: [usize; 8] = [0, 13, 14, 19, 20, 21, 25, usize::MAX];
@@ -33,14 +34,6 @@ fn prbmuf_takes_layers_1_to_4() {
     }
 }
 
-/// A list between words that no call may touch.
-#[repr(C)]
-struct Guarded {
-    before: [u64; 8],
-    list: AllModes,
-    after: [u64; 8],
-}
-
 /// Calls accumulate on random columns and checks its number against the limits; where it
 /// refuses, the list, the slots and the words around the list must be as they were.
 fn check_accumulate(prng: &mut Prng, hp: [f32; 7], count: usize, ist: usize, lst: usize) -> u32 {
@@ -48,15 +41,14 @@ fn check_accumulate(prng: &mut Prng, hp: [f32; 7], count: usize, ist: usize, lst
     zon.hp = hp;
     let mut list = AllModes::from_words(prng.words());
     list.nmmod = count;
-    let guard = std::array::from_fn(|_| prng.long());
-    let mut lent = Guarded { before: guard, list, after: guard };
+    let mut ours = Guarded::new(list);
     let slots = zon;
-    let number = entries::accumulate(&mut lent.list, &zon, ist, lst);
+    let number = entries::accumulate(&mut ours.lent, &zon, ist, lst);
     let at = format!("ist {ist}, lst {lst}, count {count}, heights {hp:?}");
     assert_eq!(number, limits::accumulate(&list, &slots, ist, lst), "{at}");
-    assert!(number == 0 || lent.list.words() == list.words(), "{at}");
+    assert!(number == 0 || ours.lent.words() == list.words(), "{at}");
     assert!(zon.words() == slots.words(), "{at}");
-    assert!(lent.before == guard && lent.after == guard, "{at}");
+    assert!(ours.is_intact(), "{at}");
     number
 }
 
@@ -97,4 +89,116 @@ fn accumulate_refuses_by_the_limits_alone() {
             }
         }
     }
+}
+
+/// The number that findf refuses a job with. It must be the one by the limits, and a refusal must
+/// leave all as it was.
+fn refusal(prng: &mut Prng, job: &FindfJob) -> u32 {
+    findf::check(Reflectrix::random(prng), job, &mut findf::Tally::default());
+    limits::findf(job)
+}
+
+#[test]
+fn findf_refuses_each_number_beyond_its_limits() {
+    let mut prng = Prng::new(24);
+    let good = findf::realistic(&mut prng);
+    assert_eq!(refusal(&mut prng, &good), 0);
+    for place in 0..findf::LIMITED {
+        let range = findf::limited(&mut { good }, place).1;
+        for number in floats::about(*range.start(), *range.end()) {
+            let mut job = good;
+            *findf::limited(&mut job, place).0 = number;
+            let expected = [5, 6, 8, 8].get(place).unwrap_or(&9);
+            let expected = if range.contains(&number) { 0 } else { *expected };
+            assert_eq!(refusal(&mut prng, &job), expected, "place {place}, {number:e}");
+        }
+    }
+    for at in 0..good.ifob.len() {
+        for entry in findf::ENTRIES {
+            let mut job = good;
+            job.ifob[at] = entry;
+            let expected = if limits::IFOB.contains(&entry) { 0 } else { 10 };
+            assert_eq!(refusal(&mut prng, &job), expected, "entry {at}, {entry}");
+        }
+    }
+    for k in findf::KS {
+        for nang in findf::NANGS {
+            let mut job = FindfJob { k, nang, ..good };
+            job.fi = [1.0; 15];
+            let expected = if k > 4 {
+                3
+            } else if nang > 40 {
+                4
+            } else {
+                0
+            };
+            assert_eq!(refusal(&mut prng, &job), expected, "k {k}, nang {nang}");
+        }
+    }
+}
+
+#[test]
+fn findf_reads_no_limits_elsewhere() {
+    let mut prng = Prng::new(25);
+    for k in 0..5 {
+        let mut job = findf::realistic(&mut prng);
+        let [second, third] = [3 * job.k + 1, 3 * job.k + 2].map(|i| job.fi[i]);
+        job.k = k;
+        job.fi = [f32::NAN; 15];
+        job.fi[3 * k + 1] = second;
+        job.fi[3 * k + 2] = third;
+        assert_eq!(refusal(&mut prng, &job), 0, "k {k}");
+    }
+}
+
+type Mend = fn(&mut FindfJob, &FindfJob);
+
+/// All limits broken, then mended one by one: the numbers come in document 01's order.
+#[test]
+fn findf_refuses_by_the_first_limit_broken() {
+    let mut prng = Prng::new(26);
+    let good = FindfJob { k: 2, fi: [1.0; 15], ..findf::realistic(&mut prng) };
+    let broken = [f32::NAN, f32::INFINITY, f32::NEG_INFINITY, 2e6];
+    for bad in broken {
+        let mut job = FindfJob { k: 5, nang: 41, freq: bad, amind: bad, ..good };
+        (job.fi, job.fvert, job.hprim) = ([bad; 15], [bad; 30], [bad; 30]);
+        (job.htrue, job.afac, job.ifob) = ([bad; 30], [bad; 30], [-1; 1200]);
+        let mends: [(u32, Mend); 11] = [
+            (3, |job, good| job.k = good.k),
+            (4, |job, good| job.nang = good.nang),
+            (5, |job, good| job.freq = good.freq),
+            (6, |job, good| job.amind = good.amind),
+            (8, |job, good| job.fi[7] = good.fi[7]),
+            (8, |job, good| job.fi[8] = good.fi[8]),
+            (9, |job, good| job.fvert = good.fvert),
+            (9, |job, good| job.hprim = good.hprim),
+            (9, |job, good| job.htrue = good.htrue),
+            (9, |job, good| job.afac = good.afac),
+            (10, |job, good| job.ifob = good.ifob),
+        ];
+        for (number, mend) in mends {
+            assert_eq!(refusal(&mut prng, &job), number, "{bad}");
+            mend(&mut job, &good);
+        }
+        assert_eq!(refusal(&mut prng, &job), 0, "{bad}");
+    }
+}
+
+#[test]
+fn fdist_refuses_by_the_first_limit_broken() {
+    let mut prng = Prng::new(27);
+    let mut tally = fdist::Tally::default();
+    let about = |range: std::ops::RangeInclusive<f32>| floats::about(*range.start(), *range.end());
+    for freq in about(limits::FREQ) {
+        for amind in about(limits::AMIND) {
+            for ghop in about(limits::GHOP) {
+                let job = entries::FdistJob { freq, amind, ghop, ..fdist::arbitrary(&mut prng) };
+                fdist::check(HopModes::random(&mut prng), &job, &mut tally);
+            }
+        }
+    }
+    // Of 14 numbers 4 are within freq's limits, 7 within amind's and 7 within ghop's.
+    let [accepted, .., five, six, seven] = tally.refusals[..8] else { unreachable!() };
+    let expected = [4 * 7 * 7, 10 * 14 * 14, 4 * 7 * 14, 4 * 7 * 7];
+    assert_eq!([accepted, five, six, seven], expected);
 }

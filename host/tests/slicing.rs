@@ -68,3 +68,16 @@ fn other_angle_calls_than_those_recorded_are_refused() {
         assert!(slice.lead(&slice.cut(SOURCE).unwrap()).is_err(), "{calls}");
     }
 }
+
+#[test]
+fn a_count_stands_before_its_line() {
+    let table = table("sin:2,asin:1,cos_modes:1");
+    let slice = &slices::parse(&table)[0];
+    let count = |counts: &str| slice.count(SOURCE, &slices::parse_counts(counts));
+    let counted = count("# comment\nitem  TURNS  let b = n.cos_modes(a).sin();\n").unwrap();
+    assert_eq!(counted, SOURCE.replace("let b", "count(&TURNS);\nlet b"));
+    assert_eq!(count("other TURNS let b = n.cos_modes(a).sin();\n").unwrap(), SOURCE);
+    assert!(count("item TURNS let c = 0;\n").is_err());
+    let twice = SOURCE.replace("before", "after");
+    assert!(slice.count(&twice, &slices::parse_counts("item TURNS after\n")).is_err());
+}

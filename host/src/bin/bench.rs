@@ -58,9 +58,62 @@ fn main() {
         compare(f.name, f.ours, f.rust, [-f.spread(), f.spread()]);
     }
     #[cfg(oracle)]
-    beside_the_rust();
+    {
+        beside_the_rust();
+        walks_and_searches();
+    }
     #[cfg(not(oracle))]
     println!("the Rust source is not at hand: set HFCAST_SRC for the others");
+}
+
+/// findf on realistic jobs, and fdist on what such walks leave; the led Rust too, which has the
+/// library's angle functions and no more of it.
+#[cfg(oracle)]
+fn walks_and_searches() {
+    use host::entries::{
+        FdistCall, FdistJob, FindfCall, FindfJob, HopModes, Reflectrix, Searched, Walked,
+    };
+    use host::oracle::{self, as_it_comes, led, AreaTables, IonoState};
+    use host::{fdist, findf};
+
+    // Few enough to stay in the processor's caches.
+    const JOBS: usize = 64;
+    let mut prng = Prng::new(1);
+
+    let jobs: [FindfJob; JOBS] = std::array::from_fn(|_| findf::realistic(&mut prng));
+    let rust_jobs = jobs.each_ref().map(|job| (IonoState::from(job), AreaTables::from(job)));
+    let rfx = Reflectrix::random(&mut prng);
+    let mut calls = jobs.map(|job| FindfCall { job, answer: Walked { refusal: 0, looks: 0, rfx } });
+    let ours = time(|i| entries::findf(black_box(&mut calls[i % JOBS])));
+    let mut rust_rfx = oracle::Reflectrix::from(rfx);
+    let mut rust = |findf: findf::RustFindf| {
+        time(|i| {
+            let FindfJob { k, freq, amind, nang, .. } = jobs[i % JOBS];
+            let (state, area) = black_box(&rust_jobs[i % JOBS]);
+            findf(black_box(&mut rust_rfx), state, area, k, freq, amind, nang);
+        })
+    };
+    let (as_it_comes, led) = (rust(as_it_comes::findf), rust(led::findf));
+    print("findf, realistic", ours, as_it_comes);
+    print("  the led Rust", led, as_it_comes);
+
+    let jobs: [FdistJob; JOBS] = std::array::from_fn(|_| fdist::after_a_walk(&mut prng));
+    let rust_jobs = jobs.each_ref().map(|job| oracle::Reflectrix::from(job.rfx));
+    let m = HopModes::random(&mut prng);
+    let answer = Searched { refusal: 0, pairs: 0, rays: 0, m };
+    let mut calls = jobs.each_ref().map(|job| FdistCall::new(job, answer));
+    let ours = time(|i| entries::fdist(black_box(&mut calls[i % JOBS])));
+    let mut rust_m = oracle::HopModes::from(m);
+    let mut rust = |fdist: fdist::RustFdist| {
+        time(|i| {
+            let FdistJob { ghop, amind, freq, .. } = jobs[i % JOBS];
+            let rfx = black_box(&rust_jobs[i % JOBS]);
+            fdist(black_box(&mut rust_m), rfx, ghop, amind, freq);
+        })
+    };
+    let (as_it_comes, led) = (rust(as_it_comes::fdist), rust(led::fdist));
+    print("fdist, after a walk", ours, as_it_comes);
+    print("  the led Rust", led, as_it_comes);
 }
 
 #[cfg(oracle)]

@@ -1,30 +1,38 @@
-//! Checks for when minutes do not matter: sweeps over all 2^32 f32, and the exact bounds.
+//! Checks for when minutes do not matter: sweeps over all 2^32 f32, the exact bounds, and 10^7
+//! walks.
 
 use host::angles::{named, Function, FUNCTIONS};
 use host::{bounds, entries, floats};
-use std::ops::RangeInclusive;
+use std::ops::Range;
 use std::process::ExitCode;
 use std::thread;
 use std::time::Instant;
 
-/// What `each` gives for every thread's share of the patterns.
-fn shared<T: Send>(each: impl Fn(RangeInclusive<u32>) -> T + Sync) -> Vec<T> {
+/// What `each` gives for every thread's share of the numbers below `total`.
+fn shared<T: Send>(total: u64, each: impl Fn(Range<u64>) -> T + Sync) -> Vec<T> {
     let threads = thread::available_parallelism().map_or(1, |n| n.get() as u64);
-    let start = |i: u64| (i << 32) / threads;
+    let start = |i: u64| i * total / threads;
     thread::scope(|scope| {
         let each = &each;
-        let share = |i| start(i) as u32..=(start(i + 1) - 1) as u32;
+        let share = |i| start(i)..start(i + 1);
         let spawn = |i| scope.spawn(move || each(share(i)));
         let running: Vec<_> = (0..threads).map(spawn).collect();
         running.into_iter().map(|thread| thread.join().unwrap()).collect()
     })
 }
 
+/// As many as there are f32.
+const PATTERNS: u64 = 1 << 32;
+
+fn float(pattern: u64) -> f32 {
+    f32::from_bits(pattern as u32)
+}
+
 /// Counts the arguments at which two functions differ, and shows one of them.
 fn compare(ours: impl Fn(f32) -> f32 + Sync, expected: impl Fn(f32) -> f32 + Sync) -> ExitCode {
     let differs = |x: &f32| !floats::same(ours(*x), expected(*x));
-    let found = shared(|share| {
-        let mut differing = share.map(f32::from_bits).filter(differs);
+    let found = shared(PATTERNS, |share| {
+        let mut differing = share.map(float).filter(differs);
         let first = differing.next();
         (first, first.map_or(0, |_| 1 + differing.count() as u64))
     });
@@ -38,8 +46,8 @@ fn compare(ours: impl Fn(f32) -> f32 + Sync, expected: impl Fn(f32) -> f32 + Syn
 
 /// The greatest distance, and where it is.
 fn greatest(distance: impl Fn(f32) -> f64 + Sync) -> f64 {
-    let found = shared(|share| {
-        let distances = share.map(f32::from_bits).map(|x| (distance(x), x));
+    let found = shared(PATTERNS, |share| {
+        let distances = share.map(float).map(|x| (distance(x), x));
         distances.fold((0.0, 0.0), |greatest, d| if d.0 > greatest.0 { d } else { greatest })
     });
     let (greatest, x) = found.into_iter().max_by(|a, b| a.0.total_cmp(&b.0)).unwrap();
@@ -94,8 +102,22 @@ fn exact() -> ExitCode {
     ExitCode::SUCCESS
 }
 
-const USAGE: &str = "usage: sweep sqrt | fnorml (needs the Rust source) | normal-curve
-             sin | cos | asin | acos | atan | page FUNCTION | exact";
+/// Each kind of findf's jobs, in batches with a seed each: more than 10^7 jobs in all.
+#[cfg(oracle)]
+fn walks() -> ExitCode {
+    for (name, kind) in host::findf::KINDS {
+        let mut tally = host::findf::Tally::default();
+        let check = |batch| host::findf::check_jobs(1000 + batch, 100_000, kind);
+        let found = shared(34, |share| share.map(check).collect::<Vec<_>>());
+        found.into_iter().flatten().for_each(|batch| tally.merge(batch));
+        tally.print(name);
+    }
+    ExitCode::SUCCESS
+}
+
+const USAGE: &str = "usage: sweep sqrt | normal-curve | exact | page FUNCTION
+             sin | cos | asin | acos | atan
+             fnorml | findf (need the Rust source)";
 
 fn main() -> ExitCode {
     let start = Instant::now();
@@ -105,6 +127,8 @@ fn main() -> ExitCode {
         (["sqrt"], _) => compare(|x| entries::sqrt(x), f32::sqrt),
         #[cfg(oracle)]
         (["fnorml"], _) => compare(|x| entries::fnorml(x), host::oracle::fnorml),
+        #[cfg(oracle)]
+        (["findf"], _) => walks(),
         (["normal-curve"], _) => normal_curve(),
         ([_], Some(f)) => angle(f),
         (["page", _], Some(f)) => compare(f.ours, f.page),

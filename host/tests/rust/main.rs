@@ -3,6 +3,10 @@
 #[cfg(oracle)]
 mod allmodes;
 #[cfg(oracle)]
+mod fdist;
+#[cfg(oracle)]
+mod findf;
+#[cfg(oracle)]
 mod fnorml;
 #[cfg(oracle)]
 mod prbmuf;

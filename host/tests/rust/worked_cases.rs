@@ -1,68 +1,129 @@
-//! Document 01's worked cases of findf and fdist, on the oracle itself.
+//! Document 01's worked cases of findf and fdist, on the library and on the oracle itself.
 
-use host::oracle::{as_it_comes, led, AreaTables, HopModes, IonoState, Numerics, Reflectrix, R};
+use host::entries::{FdistJob, FindfJob, HopModes, Reflectrix, Searched, Walked};
+use host::oracle::{self, as_it_comes, led};
+use host::{fdist, findf};
 
-type Findf = fn(&mut Reflectrix, &IonoState, &AreaTables, usize, R, R, usize);
-type Fdist = fn(&mut HopModes, &Reflectrix, R, R, R);
+type Walk = fn(Reflectrix, &FindfJob) -> Walked;
+type Search = fn(HopModes, &FdistJob) -> Searched;
+
+/// Stands for a count that nothing counts.
+const UNCOUNTED: u32 = u32::MAX;
+
+fn check_count(count: u32, expected: u32) {
+    assert!(count == expected || count == UNCOUNTED, "{count}, not {expected}");
+}
+
+fn zeros() -> Reflectrix {
+    oracle::Reflectrix::default().into()
+}
 
 /// findf on tables of zeros with this fvert in row 10.
-fn walk(findf: Findf, fvert: R, nang: usize) -> Reflectrix {
-    let state = IonoState { fi: [[0.0, 0.0, 1.0]; 5], numerics: Numerics };
-    let mut area = AreaTables::default();
-    area.ion.fvert[9] = fvert;
-    let mut rfx = Reflectrix::default();
-    findf(&mut rfx, &state, &area, 0, 2.0, 0.0, nang);
-    rfx
+fn walk(findf: Walk, fvert: f32, nang: usize) -> Walked {
+    let mut job = FindfJob {
+        k: 0,
+        nang,
+        freq: 2.0,
+        amind: 0.0,
+        fi: [0.0; 15],
+        fvert: [0.0; 30],
+        hprim: [0.0; 30],
+        htrue: [0.0; 30],
+        afac: [0.0; 30],
+        ifob: [0; 1200],
+    };
+    job.fi[2] = 1.0;
+    job.fvert[9] = fvert;
+    findf(zeros(), &job)
 }
 
-fn check_findf(findf: Findf) {
-    let rfx = walk(findf, 0.0, 40);
-    assert_eq!((rfx.rows_this_call, rfx.dskpkm, rfx.dmaxkm), (0, -1.0, -1.0));
-
-    let rfx = walk(findf, 2.0, 0);
-    assert_eq!(rfx.delpen, [89.9, 90.0, 90.0]);
-    assert_eq!((rfx.rows_this_call, rfx.dskpkm, rfx.dmaxkm), (0, 10000.0, 0.0));
-
-    assert_eq!(walk(findf, 2.0, 1).rows_this_call, 0);
-
-    let rfx = walk(findf, 2.0, 40);
-    assert_eq!((rfx.rows_this_call, rfx.delfx[0], rfx.imode[0]), (1, 89.9, 1));
+/// fdist for 3185 km on this reflectrix.
+fn search(fdist: Search, rfx: Reflectrix, amind: f32) -> Searched {
+    let job = FdistJob { rfx, ghop: 0.5, amind, freq: 2.0 };
+    fdist(oracle::HopModes::default().into(), &job)
 }
 
-/// fdist for 3185 km on rows of these lengths, of height 300 and angle 10.
-fn search(fdist: Fdist, lengths: &[R], dmaxkm: R, amind: R) -> HopModes {
-    let mut rfx = Reflectrix { dmaxkm, ..Reflectrix::default() };
+/// Rows of these lengths, of height 300 and angle 10; the layers number the rows.
+fn rows(lengths: &[f32], dmaxkm: f32) -> Reflectrix {
+    let mut rfx = Reflectrix { dmaxkm, ..zeros() };
     for (row, length) in lengths.iter().enumerate() {
         rfx.gdflx[row] = *length;
         rfx.hpflx[row] = 300.0;
         rfx.delfx[row] = 10.0;
-        rfx.imode[row] = row as i32 + 1;
+        rfx.imode[row] = row as u32 + 1;
     }
-    let mut m = HopModes::default();
-    fdist(&mut m, &rfx, 0.5, amind, 2.0);
-    m
+    rfx
 }
 
-fn check_fdist(fdist: Fdist) {
-    // The first slot's height, and its layer: here the number of the row that gave it.
-    let first = |m: HopModes| (m.hpmod[0], m.itmod[0]);
+fn check(findf: Walk, fdist: Search) {
+    let Walked { rfx, looks, .. } = walk(findf, 0.0, 40);
+    assert_eq!((rfx.rows_this_call, rfx.dskpkm, rfx.dmaxkm), (0, -1.0, -1.0));
+    check_count(looks, 0);
+    let Searched { m, pairs, rays, .. } = search(fdist, rfx, 0.0);
+    assert_eq!((m.hpmod, m.itmod), ([-1.0; 6], [5; 6]));
+    check_count(pairs, 0);
+    check_count(rays, 0);
+
+    let Walked { rfx, looks, .. } = walk(findf, 2.0, 0);
+    assert_eq!(rfx.delpen, [89.9, 90.0, 90.0]);
+    assert_eq!((rfx.rows_this_call, rfx.dskpkm, rfx.dmaxkm), (0, 10000.0, 0.0));
+    check_count(looks, 0);
+
+    let Walked { rfx, looks, .. } = walk(findf, 2.0, 1);
+    assert_eq!(rfx.rows_this_call, 0);
+    check_count(looks, 10);
+
+    let Walked { rfx, looks, .. } = walk(findf, 2.0, 40);
+    assert_eq!((rfx.rows_this_call, rfx.delfx[0], rfx.imode[0]), (1, 89.9, 1));
+    check_count(looks, 48);
+
+    // The first slot's height, and its layer: the number of the row that gave it.
+    let found = |lengths: &[f32], dmaxkm: f32, amind: f32, expected: [u32; 2]| {
+        let Searched { m, pairs, rays, .. } = search(fdist, rows(lengths, dmaxkm), amind);
+        check_count(pairs, expected[0]);
+        check_count(rays, expected[1]);
+        (m.hpmod[0], m.itmod[0])
+    };
     let none = (-1.0, 5);
-    assert_eq!(first(search(fdist, &[3185.0, 4000.0], 5000.0, 0.0)), (300.0, 1));
-    assert_eq!(first(search(fdist, &[1000.0, 3185.0, 4000.0], 5000.0, 0.0)), (300.0, 2));
-    assert_eq!(first(search(fdist, &[1000.0, 1000.0], 5000.0, 0.0)), (300.0, 1));
-    assert_eq!(first(search(fdist, &[3185.0, 3185.0], 5000.0, 0.0)), none);
-    assert_eq!(first(search(fdist, &[3185.0, 4000.0], 5000.0, 12.0)), (-300.0, 1));
-    assert_eq!(first(search(fdist, &[3185.0, 4000.0], 3185.0, 0.0)), none);
+    assert_eq!(found(&[3185.0, 4000.0], 5000.0, 0.0, [1, 1]), (300.0, 1));
+    assert_eq!(found(&[1000.0, 3185.0, 4000.0], 5000.0, 0.0, [1, 1]), (300.0, 2));
+    assert_eq!(found(&[1000.0, 1000.0], 5000.0, 0.0, [1, 1]), (300.0, 1));
+    assert_eq!(found(&[3185.0, 3185.0], 5000.0, 0.0, [1, 0]), none);
+    assert_eq!(found(&[3185.0, 4000.0], 5000.0, 12.0, [1, 0]), (-300.0, 1));
+    assert_eq!(found(&[3185.0, 4000.0], 3185.0, 0.0, [0, 0]), none);
+}
+
+/// The oracle's forms of findf and fdist that do not count.
+macro_rules! uncounted {
+    ($form:ident) => {
+        check(
+            |rfx, job| Walked {
+                refusal: 0,
+                looks: UNCOUNTED,
+                rfx: findf::rust($form::findf, rfx, job),
+            },
+            |m, job| Searched {
+                refusal: 0,
+                pairs: UNCOUNTED,
+                rays: UNCOUNTED,
+                m: fdist::rust($form::fdist, m, job),
+            },
+        )
+    };
+}
+
+#[test]
+fn the_library_gives_the_worked_cases() {
+    check(findf::ours, fdist::ours);
 }
 
 #[test]
 fn the_rust_as_it_comes_gives_the_worked_cases() {
-    check_findf(as_it_comes::findf);
-    check_fdist(as_it_comes::fdist);
+    uncounted!(as_it_comes);
 }
 
 #[test]
 fn the_led_rust_gives_the_worked_cases() {
-    check_findf(led::findf);
-    check_fdist(led::fdist);
+    uncounted!(led);
+    check(findf::counted, fdist::counted);
 }
