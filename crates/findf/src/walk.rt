@@ -1,5 +1,4 @@
-// Translated from hfcast-engine (commit bf34e8f9f3), src/voacap/modes.rs lines 699 to 809 and 890 to 899,
-// and ionogram.rs lines 23 to 28, and changed.
+// Translated from hfcast-engine (commit bf34e8f9f3), src/voacap/modes.rs lines 699 to 809 and 890 to 899, and ionogram.rs lines 23 to 28, and changed.
 // The walk of findf: its labels, its state, and each step that writes no row.
 ghost use mathlib.Core.Path.{_≡_};
 ghost use Prim.Native.Nat.{_+_, _-_, _*_, _≤_, _<_};
