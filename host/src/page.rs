@@ -1,5 +1,5 @@
-//! docs/ANGLES.md as a program: the angle functions over whole numbers, written from that page
-//! alone. The page's numbers are as long as they need be; here none passes 128 bits, as the
+//! docs/ANGLES.md as a program: the angle functions over whole numbers, by that page's formulas
+//! and with no code of the crates. The page's numbers are as long as they need be; here none passes 128 bits, as the
 //! factors of `mh` are below 2^64.
 
 use crate::exact::digits;
