@@ -102,7 +102,15 @@ fields! {
     }
 }
 
-/// `findf`'s answer, and before the call the reflectrix to start from.
+/// `accumulate`'s answer.
+#[repr(C)]
+#[derive(Clone, Copy)]
+pub struct Accumulated {
+    pub refusal: u32,
+    pub modes: AllModes,
+}
+
+/// `findf`'s answer.
 #[repr(C)]
 #[derive(Clone, Copy)]
 pub struct Walked {
@@ -111,15 +119,14 @@ pub struct Walked {
     pub rfx: Reflectrix,
 }
 
-/// `findf`'s other arguments; `fi` point by point, three numbers each, `ifob` angle by angle.
-#[repr(C)]
+/// `findf`'s arguments beside the reflectrix; `ifob` angle by angle.
 #[derive(Clone, Copy)]
 pub struct FindfJob {
     pub k: usize,
     pub nang: usize,
     pub freq: f32,
     pub amind: f32,
-    pub fi: [f32; 15],
+    pub fi: [[f32; 3]; 5],
     pub fvert: [f32; 30],
     pub hprim: [f32; 30],
     pub htrue: [f32; 30],
@@ -127,15 +134,7 @@ pub struct FindfJob {
     pub ifob: [i32; 1200],
 }
 
-/// A call of `findf`: what it reads, and its answer.
-#[repr(C)]
-#[derive(Clone, Copy)]
-pub struct FindfCall {
-    pub job: FindfJob,
-    pub answer: Walked,
-}
-
-/// `fdist`'s answer, and before the call the slots to start from.
+/// `fdist`'s answer.
 #[repr(C)]
 #[derive(Clone, Copy)]
 pub struct Searched {
@@ -145,7 +144,7 @@ pub struct Searched {
     pub m: HopModes,
 }
 
-/// `fdist`'s other arguments.
+/// `fdist`'s arguments beside the slots.
 #[derive(Clone, Copy)]
 pub struct FdistJob {
     pub rfx: Reflectrix,
@@ -154,27 +153,8 @@ pub struct FdistJob {
     pub freq: f32,
 }
 
-/// A call of `fdist`: what it reads, field by field, since a record of its own would end in
-/// padding, and its answer.
-#[repr(C)]
-#[derive(Clone, Copy)]
-pub struct FdistCall {
-    pub rfx: Reflectrix,
-    pub ghop: f32,
-    pub amind: f32,
-    pub freq: f32,
-    pub answer: Searched,
-}
-
-impl FdistCall {
-    pub fn new(job: &FdistJob, answer: Searched) -> Self {
-        let FdistJob { rfx, ghop, amind, freq } = *job;
-        FdistCall { rfx, ghop, amind, freq, answer }
-    }
-}
-
 // Safe to call: the functions take any numbers, and of the memory lent they read and write the
-// record alone, during the call alone.
+// array or the number alone, during the call alone.
 unsafe extern "C" {
     #[link_name = "ray_sqrt"]
     pub safe fn sqrt(x: f32) -> f32;
@@ -193,20 +173,32 @@ unsafe extern "C" {
         out: &mut f32,
     ) -> u32;
 
-    /// 0, or 11 or 12 with the list as it was.
+    /// On a refusal, 11 or 12, the list is as it was.
     #[link_name = "ray_accumulate"]
-    pub safe fn accumulate(m: &mut AllModes, zon: &Zon, ist: usize, lst: usize) -> u32;
+    pub safe fn accumulate(m: AllModes, zon: Zon, ist: usize, lst: usize) -> Accumulated;
 
     #[link_name = "ray_reset"]
-    pub safe fn reset(m: &mut AllModes);
+    pub safe fn reset(m: AllModes) -> AllModes;
 
-    /// The answer becomes findf of its `rfx` and the job; on a refusal `rfx` is as it was, looks 0.
+    /// On a refusal the reflectrix is as it was, and looks 0.
     #[link_name = "ray_findf"]
-    pub safe fn findf(call: &mut FindfCall);
+    pub safe fn findf(
+        rfx: Reflectrix,
+        k: usize,
+        nang: usize,
+        freq: f32,
+        amind: f32,
+        fi: &[[f32; 3]; 5],
+        fvert: &[f32; 30],
+        hprim: &[f32; 30],
+        htrue: &[f32; 30],
+        afac: &[f32; 30],
+        ifob: &[i32; 1200],
+    ) -> Walked;
 
-    /// The answer becomes fdist of its `m` and the job; on a refusal `m` is as it was, the counts 0.
+    /// On a refusal the slots are as they were, and the counts 0.
     #[link_name = "ray_fdist"]
-    pub safe fn fdist(call: &mut FdistCall);
+    pub safe fn fdist(m: HopModes, rfx: Reflectrix, ghop: f32, amind: f32, freq: f32) -> Searched;
 
     #[link_name = "ray_sin"]
     pub safe fn sin(x: f32) -> f32;

@@ -1,9 +1,8 @@
 //! fdist by value: jobs for it, and the check of one.
 
-use crate::entries::{self, FdistCall, FdistJob, HopModes, Reflectrix, Searched};
+use crate::entries::{self, FdistJob, HopModes, Reflectrix, Searched};
 use crate::findf::{self, inside, near, RZ};
 use crate::floats;
-use crate::guarded::Guarded;
 use crate::limits;
 use crate::prng::Prng;
 use crate::record::Record;
@@ -37,13 +36,9 @@ impl Tally {
     }
 }
 
-/// The library's fdist. What the answer held before must not matter.
+/// The library's fdist.
 pub fn ours(m: HopModes, job: &FdistJob) -> Searched {
-    let before = Searched { refusal: u32::MAX, pairs: u32::MAX, rays: u32::MAX, m };
-    let mut call = Guarded::new(FdistCall::new(job, before));
-    entries::fdist(&mut call.lent);
-    assert!(call.is_intact());
-    call.lent.answer
+    entries::fdist(m, job.rfx, job.ghop, job.amind, job.freq)
 }
 
 #[cfg(oracle)]

@@ -3,9 +3,8 @@
 mod jobs;
 pub use jobs::*;
 
-use crate::entries::{self, FindfCall, FindfJob, Reflectrix, Walked};
+use crate::entries::{self, FindfJob, Reflectrix, Walked};
 use crate::floats;
-use crate::guarded::Guarded;
 use crate::limits;
 use crate::prng::Prng;
 use crate::record::Record;
@@ -67,13 +66,10 @@ impl Tally {
     }
 }
 
-/// The library's findf. What the answer held before must not matter.
+/// The library's findf.
 pub fn ours(rfx: Reflectrix, job: &FindfJob) -> Walked {
-    let answer = Walked { refusal: u32::MAX, looks: u32::MAX, rfx };
-    let mut call = Guarded::new(FindfCall { job: *job, answer });
-    entries::findf(&mut call.lent);
-    assert!(call.is_intact());
-    call.lent.answer
+    let FindfJob { k, nang, freq, amind, fi, fvert, hprim, htrue, afac, ifob } = job;
+    entries::findf(rfx, *k, *nang, *freq, *amind, fi, fvert, hprim, htrue, afac, ifob)
 }
 
 #[cfg(oracle)]

@@ -45,8 +45,7 @@ pub struct IonoState {
 
 impl From<&crate::entries::FindfJob> for IonoState {
     fn from(job: &crate::entries::FindfJob) -> Self {
-        let point = |k: usize| std::array::from_fn(|i| job.fi[3 * k + i]);
-        IonoState { fi: std::array::from_fn(point), numerics: Numerics }
+        IonoState { fi: job.fi, numerics: Numerics }
     }
 }
 

@@ -1,7 +1,6 @@
 //! Limits 3 to 13: the right number, and nothing changed.
 
 use host::entries::{self, AllModes, FindfJob, HopModes, MufHour, Reflectrix, Zon};
-use host::guarded::Guarded;
 use host::prng::Prng;
 use host::{fdist, findf, floats, limits};
 
@@ -35,21 +34,17 @@ fn prbmuf_takes_layers_1_to_4() {
 }
 
 /// Calls accumulate on random columns and checks its number against the limits; where it
-/// refuses, the list, the slots and the words around the list must be as they were.
+/// refuses, the list must be as it was.
 fn check_accumulate(prng: &mut Prng, hp: [f32; 7], count: usize, ist: usize, lst: usize) -> u32 {
     let mut zon = Zon::from_words(prng.words());
     zon.hp = hp;
     let mut list = AllModes::from_words(prng.words());
     list.nmmod = count;
-    let mut ours = Guarded::new(list);
-    let slots = zon;
-    let number = entries::accumulate(&mut ours.lent, &zon, ist, lst);
+    let ours = entries::accumulate(list, zon, ist, lst);
     let at = format!("ist {ist}, lst {lst}, count {count}, heights {hp:?}");
-    assert_eq!(number, limits::accumulate(&list, &slots, ist, lst), "{at}");
-    assert!(number == 0 || ours.lent.words() == list.words(), "{at}");
-    assert!(zon.words() == slots.words(), "{at}");
-    assert!(ours.is_intact(), "{at}");
-    number
+    assert_eq!(ours.refusal, limits::accumulate(&list, &zon, ist, lst), "{at}");
+    assert!(ours.refusal == 0 || ours.modes.words() == list.words(), "{at}");
+    ours.refusal
 }
 
 #[test]
@@ -124,7 +119,7 @@ fn findf_refuses_each_number_beyond_its_limits() {
     for k in findf::KS {
         for nang in findf::NANGS {
             let mut job = FindfJob { k, nang, ..good };
-            job.fi = [1.0; 15];
+            job.fi = [[1.0; 3]; 5];
             let expected = if k > 4 {
                 3
             } else if nang > 40 {
@@ -142,11 +137,10 @@ fn findf_reads_no_limits_elsewhere() {
     let mut prng = Prng::new(25);
     for k in 0..5 {
         let mut job = findf::realistic(&mut prng);
-        let [second, third] = [3 * job.k + 1, 3 * job.k + 2].map(|i| job.fi[i]);
+        let [_, second, third] = job.fi[job.k];
         job.k = k;
-        job.fi = [f32::NAN; 15];
-        job.fi[3 * k + 1] = second;
-        job.fi[3 * k + 2] = third;
+        job.fi = [[f32::NAN; 3]; 5];
+        job.fi[k] = [f32::NAN, second, third];
         assert_eq!(refusal(&mut prng, &job), 0, "k {k}");
     }
 }
@@ -157,19 +151,19 @@ type Mend = fn(&mut FindfJob, &FindfJob);
 #[test]
 fn findf_refuses_by_the_first_limit_broken() {
     let mut prng = Prng::new(26);
-    let good = FindfJob { k: 2, fi: [1.0; 15], ..findf::realistic(&mut prng) };
+    let good = FindfJob { k: 2, fi: [[1.0; 3]; 5], ..findf::realistic(&mut prng) };
     let broken = [f32::NAN, f32::INFINITY, f32::NEG_INFINITY, 2e6];
     for bad in broken {
         let mut job = FindfJob { k: 5, nang: 41, freq: bad, amind: bad, ..good };
-        (job.fi, job.fvert, job.hprim) = ([bad; 15], [bad; 30], [bad; 30]);
+        (job.fi, job.fvert, job.hprim) = ([[bad; 3]; 5], [bad; 30], [bad; 30]);
         (job.htrue, job.afac, job.ifob) = ([bad; 30], [bad; 30], [-1; 1200]);
         let mends: [(u32, Mend); 11] = [
             (3, |job, good| job.k = good.k),
             (4, |job, good| job.nang = good.nang),
             (5, |job, good| job.freq = good.freq),
             (6, |job, good| job.amind = good.amind),
-            (8, |job, good| job.fi[7] = good.fi[7]),
-            (8, |job, good| job.fi[8] = good.fi[8]),
+            (8, |job, good| job.fi[2][1] = good.fi[2][1]),
+            (8, |job, good| job.fi[2][2] = good.fi[2][2]),
             (9, |job, good| job.fvert = good.fvert),
             (9, |job, good| job.hprim = good.hprim),
             (9, |job, good| job.htrue = good.htrue),

@@ -66,6 +66,7 @@ pub struct AllModes {
 }
 
 // The list, and 0 or the number of the limit that refuses.
+#[repr(C)]
 pub struct Accumulated {
     pub refusal: u32,
     pub modes: AllModes,

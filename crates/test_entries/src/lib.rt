@@ -4,9 +4,13 @@ ghost use Rattle.root.specs.Root.{sqrtOf};
 ghost use Rattle.fnorml.specs.Fnorml.{fnormlOf};
 ghost use Rattle.sigdis.specs.Prbmuf.{prbmufOf, refusalOf, leftOf};
 ghost use Rattle.allmodes.specs.AllModes.{resetOf, accumulateOf};
-ghost use Rattle.test_entries.specs.Entries.{hourOf, findfRan, fdistRan};
+ghost use Rattle.findf.specs.Findf.{findfOf};
+ghost use Rattle.fdist.specs.Fdist.{fdistOf};
+ghost use Rattle.test_entries.specs.Entries.{hourOf};
+use allmodes::Accumulated;
 use allmodes::AllModes;
 use allmodes::Zon;
+use fdist::HopModes;
 use fdist::Searched;
 use findf::Reflectrix;
 use findf::Walked;
@@ -72,106 +76,60 @@ pub extern "C" fn ray_prbmuf(
 }
 
 #[no_mangle]
-pub extern "C" fn ray_reset(m: &mut AllModes)
-    ensures { λ _. ⌜ now (m .exit) ≡ resetOf (now (m .entry)) ⌝ }
+pub extern "C" fn ray_reset(m: AllModes) -> AllModes
+    ensures { λ r. ⌜ r ≡ resetOf m ⌝ }
 {
-    *m = allmodes::reset(*m);
+    allmodes::reset(m)
 }
 
 #[no_mangle]
-pub extern "C" fn ray_accumulate(m: &mut AllModes, zon: &Zon, ist: usize, lst: usize) -> u32
-    ensures { λ r. ⌜ (r ≡ accumulateOf (now (m .entry)) (now (zon .entry)) ist lst .refusal)
-        × (now (m .exit) ≡ accumulateOf (now (m .entry)) (now (zon .entry)) ist lst .modes) ⌝ }
+pub extern "C" fn ray_accumulate(m: AllModes, zon: Zon, ist: usize, lst: usize) -> Accumulated
+    ensures { λ r. ⌜ r ≡ accumulateOf m zon ist lst ⌝ }
 {
-    let a = allmodes::accumulate(*m, *zon, ist, lst);
-    *m = a.modes;
-    a.refusal
+    allmodes::accumulate(m, zon, ist, lst)
 }
 
-// What findf is called with, fi point by point, and its answer. What goes in as the reflectrix is the answer's.
-#[repr(C)]
-pub struct FindfCall {
-    pub k: usize,
-    pub nang: usize,
-    pub freq: f32,
-    pub amind: f32,
-    pub fi: [f32; 15],
-    pub fvert: [f32; 30],
-    pub hprim: [f32; 30],
-    pub htrue: [f32; 30],
-    pub afac: [f32; 30],
-    pub ifob: [i32; 1200],
-    pub answer: Walked,
-}
-
-fn run_findf(c: FindfCall) -> FindfCall
-    ensures { λ r. ⌜ r ≡ findfRan c ⌝ }
+// The tables are lent, since C passes no array by value; findf has its own copies.
+#[no_mangle]
+pub extern "C" fn ray_findf(
+    rfx: Reflectrix,
+    k: usize,
+    nang: usize,
+    freq: f32,
+    amind: f32,
+    fi: &[[f32; 3]; 5],
+    fvert: &[f32; 30],
+    hprim: &[f32; 30],
+    htrue: &[f32; 30],
+    afac: &[f32; 30],
+    ifob: &[i32; 1200],
+) -> Walked
+    ensures { λ r. ⌜ r ≡ findfOf rfx k nang freq amind (now (fi .entry)) (now (fvert .entry)) (now (hprim .entry)) (now (htrue .entry)) (now (afac .entry)) (now (ifob .entry)) ⌝ }
 {
-    let f = c.fi;
-    let fi = [
-        [f[0], f[1], f[2]],
-        [f[3], f[4], f[5]],
-        [f[6], f[7], f[8]],
-        [f[9], f[10], f[11]],
-        [f[12], f[13], f[14]],
-    ];
-    let fvert = c.fvert;
-    let hprim = c.hprim;
-    let htrue = c.htrue;
-    let afac = c.afac;
-    let ifob = c.ifob;
-    let old = c.answer;
-    let rfx = old.rfx;
-    let answer = findf::findf(
+    findf::findf(
         rfx,
-        c.k,
-        c.nang,
-        c.freq,
-        c.amind,
-        fi,
-        fvert,
-        hprim,
-        htrue,
-        afac,
-        ifob,
-    );
-    let mut out = c;
-    out.answer = answer;
-    out
+        k,
+        nang,
+        freq,
+        amind,
+        *fi,
+        *fvert,
+        *hprim,
+        *htrue,
+        *afac,
+        *ifob,
+    )
 }
 
 #[no_mangle]
-pub extern "C" fn ray_findf(c: &mut FindfCall)
-    ensures { λ _. ⌜ now (c .exit) ≡ findfRan (now (c .entry)) ⌝ }
+pub extern "C" fn ray_fdist(
+    m: HopModes,
+    rfx: Reflectrix,
+    ghop: f32,
+    amind: f32,
+    freq: f32,
+) -> Searched
+    ensures { λ r. ⌜ r ≡ fdistOf m rfx ghop amind freq ⌝ }
 {
-    *c = run_findf(*c);
-}
-
-// What fdist is called with, and its answer. What goes in as the slots is the answer's.
-#[repr(C)]
-pub struct FdistCall {
-    pub rfx: Reflectrix,
-    pub ghop: f32,
-    pub amind: f32,
-    pub freq: f32,
-    pub answer: Searched,
-}
-
-fn run_fdist(c: FdistCall) -> FdistCall
-    ensures { λ r. ⌜ r ≡ fdistRan c ⌝ }
-{
-    let rfx = c.rfx;
-    let old = c.answer;
-    let m = old.m;
-    let answer = fdist::fdist(m, rfx, c.ghop, c.amind, c.freq);
-    let mut out = c;
-    out.answer = answer;
-    out
-}
-
-#[no_mangle]
-pub extern "C" fn ray_fdist(c: &mut FdistCall)
-    ensures { λ _. ⌜ now (c .exit) ≡ fdistRan (now (c .entry)) ⌝ }
-{
-    *c = run_fdist(*c);
+    fdist::fdist(m, rfx, ghop, amind, freq)
 }

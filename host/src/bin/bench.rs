@@ -70,9 +70,7 @@ fn main() {
 /// library's angle functions and no more of it.
 #[cfg(oracle)]
 fn walks_and_searches() {
-    use host::entries::{
-        FdistCall, FdistJob, FindfCall, FindfJob, HopModes, Reflectrix, Searched, Walked,
-    };
+    use host::entries::{FdistJob, FindfJob, HopModes, Reflectrix};
     use host::oracle::{self, as_it_comes, led, AreaTables, IonoState};
     use host::{fdist, findf};
 
@@ -83,8 +81,8 @@ fn walks_and_searches() {
     let jobs: [FindfJob; JOBS] = std::array::from_fn(|_| findf::realistic(&mut prng));
     let rust_jobs = jobs.each_ref().map(|job| (IonoState::from(job), AreaTables::from(job)));
     let rfx = Reflectrix::random(&mut prng);
-    let mut calls = jobs.map(|job| FindfCall { job, answer: Walked { refusal: 0, looks: 0, rfx } });
-    let ours = time(|i| entries::findf(black_box(&mut calls[i % JOBS])));
+    let mut ours_rfx = rfx;
+    let ours = time(|i| ours_rfx = findf::ours(ours_rfx, black_box(&jobs[i % JOBS])).rfx);
     let mut rust_rfx = oracle::Reflectrix::from(rfx);
     let mut rust = |findf: findf::RustFindf| {
         time(|i| {
@@ -100,9 +98,8 @@ fn walks_and_searches() {
     let jobs: [FdistJob; JOBS] = std::array::from_fn(|_| fdist::after_a_walk(&mut prng));
     let rust_jobs = jobs.each_ref().map(|job| oracle::Reflectrix::from(job.rfx));
     let m = HopModes::random(&mut prng);
-    let answer = Searched { refusal: 0, pairs: 0, rays: 0, m };
-    let mut calls = jobs.each_ref().map(|job| FdistCall::new(job, answer));
-    let ours = time(|i| entries::fdist(black_box(&mut calls[i % JOBS])));
+    let mut ours_m = m;
+    let ours = time(|i| ours_m = fdist::ours(ours_m, black_box(&jobs[i % JOBS])).m);
     let mut rust_m = oracle::HopModes::from(m);
     let mut rust = |fdist: fdist::RustFdist| {
         time(|i| {
@@ -146,9 +143,8 @@ fn beside_the_rust() {
     let (mut ours_list, mut rust_list) = (list, oracle::AllModes::from(list));
     let rust_zon = oracle::Zon::from(zon);
     let ours = time(|_| {
-        let list = black_box(&mut ours_list);
-        list.nmmod = 0;
-        entries::accumulate(list, black_box(&zon), 1, 7);
+        ours_list.nmmod = 0;
+        ours_list = entries::accumulate(ours_list, *black_box(&zon), 1, 7).modes;
     });
     let rust = time(|_| {
         let list = black_box(&mut rust_list);
@@ -156,6 +152,6 @@ fn beside_the_rust() {
         list.accumulate(black_box(&rust_zon), 1, 7);
     });
     print("accumulate, 4 of 7", ours, rust);
-    let ours = time(|_| entries::reset(black_box(&mut ours_list)));
+    let ours = time(|_| ours_list = entries::reset(*black_box(&ours_list)));
     print("reset", ours, time(|_| black_box(&mut rust_list).reset()));
 }

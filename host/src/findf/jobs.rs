@@ -58,15 +58,14 @@ pub fn realistic(prng: &mut Prng) -> FindfJob {
         nang: prng.among(&[40, 34, 29, 24, 19, 14, 12, 9]),
         freq: prng.among(&freqs),
         amind: prng.among(&aminds),
-        fi: std::array::from_fn(|_| prng.within(0.0, 12.0)),
+        fi: std::array::from_fn(|_| std::array::from_fn(|_| prng.within(0.0, 12.0))),
         fvert: [0.0; 30],
         hprim: [0.0; 30],
         htrue: [0.0; 30],
         afac: [0.0; 30],
         ifob: std::array::from_fn(|_| prng.below(100_000) as i32),
     };
-    let fi = [e.critical, if has_f1 { f1.critical } else { 0.0 }, f2.critical];
-    job.fi[3 * job.k..][..3].copy_from_slice(&fi);
+    job.fi[job.k] = [e.critical, if has_f1 { f1.critical } else { 0.0 }, f2.critical];
     let last = 0.99 * f1_or_f2.critical;
     let mut rows = |first: usize, count: usize, layer: Layer, low: f32, high: f32| {
         for i in 0..count {
@@ -128,11 +127,12 @@ pub fn adversarial(prng: &mut Prng) -> FindfJob {
     let angle = take_off_angles().nth(prng.below(40)).unwrap();
     let aminds = [job.amind, angle, near(prng, angle, limits::AMIND), 0.0, -0.0, 90.0];
     job.amind = prng.among(&aminds);
-    let seconds = [job.fi[3 * job.k + 1], 0.0, 3.0, inside(prng, limits::FI_SECOND)];
-    let thirds = [job.fi[3 * job.k + 2], inside(prng, limits::FI_THIRD)];
-    job.fi = std::array::from_fn(|_| prng.float());
-    job.fi[3 * job.k + 1] = prng.among(&seconds);
-    job.fi[3 * job.k + 2] = prng.among(&thirds);
+    let [_, second, third] = job.fi[job.k];
+    let seconds = [second, 0.0, 3.0, inside(prng, limits::FI_SECOND)];
+    let thirds = [third, inside(prng, limits::FI_THIRD)];
+    job.fi = std::array::from_fn(|_| std::array::from_fn(|_| prng.float()));
+    job.fi[job.k][1] = prng.among(&seconds);
+    job.fi[job.k][2] = prng.among(&thirds);
     if prng.below(2) == 0 {
         turn_columns(prng, &mut job);
     }
@@ -222,12 +222,12 @@ pub const LIMITED: usize = 4 + 4 * 30;
 
 /// One of the floats that have limits, and its range. A k above 4 counts as 0.
 pub fn limited(job: &mut FindfJob, place: usize) -> (&mut f32, RangeInclusive<f32>) {
-    let fi = if job.k <= 4 { 3 * job.k } else { 0 };
+    let point = if job.k <= 4 { job.k } else { 0 };
     match place {
         0 => (&mut job.freq, limits::FREQ),
         1 => (&mut job.amind, limits::AMIND),
-        2 => (&mut job.fi[fi + 1], limits::FI_SECOND),
-        3 => (&mut job.fi[fi + 2], limits::FI_THIRD),
+        2 => (&mut job.fi[point][1], limits::FI_SECOND),
+        3 => (&mut job.fi[point][2], limits::FI_THIRD),
         4..34 => (&mut job.fvert[place - 4], limits::FVERT),
         34..64 => (&mut job.hprim[place - 34], limits::HPRIM),
         64..94 => (&mut job.htrue[place - 64], limits::HTRUE),

@@ -4,13 +4,13 @@ use host::{limits, oracle};
 
 /// The list and the slots after a call, where the Rust must agree bit for bit.
 fn check_accumulate(list: AllModes, zon: Zon, ist: usize, lst: usize) {
-    let mut ours = list;
-    assert_eq!(entries::accumulate(&mut ours, &zon, ist, lst), 0);
+    let ours = entries::accumulate(list, zon, ist, lst);
+    assert_eq!(ours.refusal, 0);
     let mut rust = oracle::AllModes::from(list);
     rust.accumulate(&zon.into(), ist, lst);
     let rust = AllModes::from(rust);
     assert!(
-        ours.words() == rust.words(),
+        ours.modes.words() == rust.words(),
         "ist {ist}, lst {lst}, count {}, heights {:?}",
         list.nmmod,
         zon.hp
@@ -54,15 +54,17 @@ fn accumulate_wherever_it_is_allowed() {
 fn accumulate_hop_after_hop_from_a_reset() {
     let mut prng = Prng::new(12);
     for _ in 0..10_000 {
-        let mut ours = random_list(&mut prng, 0);
-        let mut rust = oracle::AllModes::from(ours);
-        entries::reset(&mut ours);
+        let list = random_list(&mut prng, 0);
+        let mut rust = oracle::AllModes::from(list);
+        let mut ours = entries::reset(list);
         rust.reset();
         loop {
             let zon = Zon::from_words(prng.words());
-            if entries::accumulate(&mut ours, &zon, 1, 7) != 0 {
+            let accumulated = entries::accumulate(ours, zon, 1, 7);
+            if accumulated.refusal != 0 {
                 break;
             }
+            ours = accumulated.modes;
             rust.accumulate(&zon.into(), 1, 7);
         }
         assert!(ours.words() == AllModes::from(rust).words());
@@ -75,8 +77,7 @@ fn reset_of_any_list() {
     let mut prng = Prng::new(13);
     for _ in 0..100_000 {
         let list = AllModes::from_words(prng.words());
-        let mut ours = list;
-        entries::reset(&mut ours);
+        let ours = entries::reset(list);
         let mut rust = oracle::AllModes::from(list);
         rust.reset();
         assert!(ours.words() == AllModes::from(rust).words());

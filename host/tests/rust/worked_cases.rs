@@ -25,14 +25,14 @@ fn walk(findf: Walk, fvert: f32, nang: usize) -> Walked {
         nang,
         freq: 2.0,
         amind: 0.0,
-        fi: [0.0; 15],
+        fi: [[0.0; 3]; 5],
         fvert: [0.0; 30],
         hprim: [0.0; 30],
         htrue: [0.0; 30],
         afac: [0.0; 30],
         ifob: [0; 1200],
     };
-    job.fi[2] = 1.0;
+    job.fi[0][2] = 1.0;
     job.fvert[9] = fvert;
     findf(zeros(), &job)
 }
