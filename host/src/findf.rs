@@ -3,8 +3,9 @@
 mod jobs;
 pub use jobs::*;
 
-use crate::entries::{self, FindfJob, Reflectrix, Walked};
+use crate::entries::{self, Figures, FindfJob, Reflectrix, Walked};
 use crate::floats;
+use crate::guarded::Guarded;
 use crate::limits;
 use crate::prng::Prng;
 use crate::record::Record;
@@ -66,10 +67,32 @@ impl Tally {
     }
 }
 
-/// The library's findf.
+/// The library's findf by value.
 pub fn ours(rfx: Reflectrix, job: &FindfJob) -> Walked {
     let FindfJob { k, nang, freq, amind, fi, fvert, hprim, htrue, afac, ifob } = job;
     entries::findf(rfx, *k, *nang, *freq, *amind, fi, fvert, hprim, htrue, afac, ifob)
+}
+
+/// The library's findf into the columns of a record, whose figures are set by the answer: the
+/// refusal's number and the looks.
+pub fn in_place(rfx: &mut Reflectrix, job: &FindfJob) -> (u32, u32) {
+    let figures = Figures::from(&*rfx);
+    let FindfJob { k, nang, freq, amind, fi, fvert, hprim, htrue, afac, ifob } = job;
+    let Reflectrix { delfx, hpflx, htflx, gdflx, fvflx, afflx, imode, .. } = rfx;
+    let outcome = entries::findf_into(
+        delfx, hpflx, htflx, gdflx, fvflx, afflx, imode, figures, *k, *nang, *freq, *amind, fi,
+        fvert, hprim, htrue, afac, ifob,
+    );
+    rfx.set_figures(outcome.figures);
+    (outcome.refusal, outcome.looks)
+}
+
+/// The same, where the record stands between words that no call may touch.
+fn ours_in_place(rfx: Reflectrix, job: &FindfJob) -> Walked {
+    let mut lent = Guarded::new(rfx);
+    let (refusal, looks) = in_place(&mut lent.lent, job);
+    assert!(lent.is_intact());
+    Walked { refusal, looks, rfx: lent.lent }
 }
 
 #[cfg(oracle)]
@@ -92,28 +115,32 @@ pub fn counted(rfx: Reflectrix, job: &FindfJob) -> Walked {
     Walked { refusal: 0, looks, rfx }
 }
 
-/// Checks a job on a used reflectrix: the number by the limits, a refusal's reflectrix as it was,
-/// an accepted one as the led Rust has it.
+/// Checks a job on a used reflectrix, by value and in place: the number by the limits, a
+/// refusal's reflectrix as it was, an accepted one as the led Rust has it.
 pub fn check(old: Reflectrix, job: &FindfJob, tally: &mut Tally) {
     let refusal = limits::findf(job);
-    let w = ours(old, job);
+    let answers = [ours(old, job), ours_in_place(old, job)];
     let FindfJob { k, nang, freq, amind, .. } = *job;
     let at = || format!("k {k}, nang {nang}, freq {freq:e}, amind {amind:e}");
-    assert_eq!(w.refusal, refusal, "{}", at());
+    assert_eq!(answers.map(|w| w.refusal), [refusal; 2], "{}", at());
     tally.refusals[refusal as usize] += 1;
     if refusal > 0 {
-        assert_eq!(w.looks, 0, "{}", at());
-        assert_eq!(w.rfx.difference(&old, floats::identical), None, "{}", at());
+        for w in answers {
+            assert_eq!(w.looks, 0, "{}", at());
+            assert_eq!(w.rfx.difference(&old, floats::identical), None, "{}", at());
+        }
         return;
     }
-    tally.add(&w, nang);
+    tally.add(&answers[0], nang);
     #[cfg(oracle)]
     {
         let led = rust(led::findf, old, job);
-        assert_eq!(w.rfx.difference(&led, floats::same), None, "{}", at());
         let counted = counted(old, job);
         assert_eq!(counted.rfx.difference(&led, floats::same), None, "{}", at());
-        assert_eq!(w.looks, counted.looks, "{}", at());
+        for w in answers {
+            assert_eq!(w.rfx.difference(&led, floats::same), None, "{}", at());
+            assert_eq!(w.looks, counted.looks, "{}", at());
+        }
         tally.differences.add(&led, &rust(as_it_comes::findf, old, job));
     }
 }

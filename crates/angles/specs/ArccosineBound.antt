@@ -7,9 +7,9 @@ use native.Mathlib.Nat.{lt-of-le-of-lt, lt-of-lt-of-le, lt-irrefl, lt-trans}
 use native.Mathlib.Omega.{arith}
 use native.Mathlib.Decide.{decLe}
 use borrow.Author.Tests.{leb-true, leb-false, le-leb}
-use lib.Dec.{T, leb, lit≤, lit<}
+use lib.Dec.{leb, lit≤, lit<}
 use lib.IntN.{ℤ}
-use lib.Ieee.{Float, fin, binary32, up, down, fits, lt}
+use lib.Ieee.{Float, fin, up, down, lt}
 use lib.Ieee.Exact.{HasValue}
 use Rattle.arith.specs.Floats.{scaled}
 use Rattle.angles.specs.Series.{sinUp, sinDown, cosDen}
@@ -101,9 +101,9 @@ inside w w1 w4 s m e q =
     ranged k h = omega arith
 
 -- the theorem
-pub acos-meets : (w : ℕ) → 1 ≤ w → w ≤ 4 → (x : Float) → T (fits binary32 x) → UpToOne (ArccosineAsked w) x (acosOf x)
-acos-meets w w1 w4 x t = up-to-one-all (ArccosineAsked w) (either-asked w) acosOf acos-outside (inside w w1 w4) x
+pub acos-meets : (w : ℕ) → 1 ≤ w → w ≤ 4 → (x : Float) → UpToOne (ArccosineAsked w) x (acosOf x)
+acos-meets w w1 w4 = up-to-one-all (ArccosineAsked w) (either-asked w) acosOf acos-outside (inside w w1 w4)
 
 -- at the width that is promised
-pub acos-promise : (x : Float) → T (fits binary32 x) → UpToOne (ArccosineAsked halfWidth) x (acosOf x)
+pub acos-promise : (x : Float) → UpToOne (ArccosineAsked halfWidth) x (acosOf x)
 acos-promise = acos-meets halfWidth (lit≤ tt) (lit≤ tt)

@@ -7,9 +7,9 @@ use native.Mathlib.Nat.{le-trans, lt-of-le-of-lt, le-add-right, mul-le-mul-right
 use native.Mathlib.Omega.{arith}
 use native.Mathlib.Decide.{decLe}
 use borrow.Author.Tests.{leb-true}
-use lib.Dec.{T, leb, lit≤, lit<}
+use lib.Dec.{leb, lit≤, lit<}
 use lib.IntN.{ℤ}
-use lib.Ieee.{Float, fin, binary32, up, down, fits, lt}
+use lib.Ieee.{Float, fin, up, down, lt}
 use lib.Ieee.Exact.{HasValue}
 use Rattle.arith.specs.Floats.{scaled}
 use Rattle.angles.specs.Series.{sinUp, sinDown, sinDen}
@@ -82,9 +82,9 @@ inside w w1 w4 s m e q =
     ranged true k h = omega arith
 
 -- the theorem
-pub asin-meets : (w : ℕ) → 1 ≤ w → w ≤ 4 → (x : Float) → T (fits binary32 x) → UpToOne (ArcsineAsked w) x (asinOf x)
-asin-meets w w1 w4 x t = up-to-one-all (ArcsineAsked w) (either-asked w) asinOf asin-outside (inside w w1 w4) x
+pub asin-meets : (w : ℕ) → 1 ≤ w → w ≤ 4 → (x : Float) → UpToOne (ArcsineAsked w) x (asinOf x)
+asin-meets w w1 w4 = up-to-one-all (ArcsineAsked w) (either-asked w) asinOf asin-outside (inside w w1 w4)
 
 -- at the width that is promised
-pub asin-promise : (x : Float) → T (fits binary32 x) → UpToOne (ArcsineAsked halfWidth) x (asinOf x)
+pub asin-promise : (x : Float) → UpToOne (ArcsineAsked halfWidth) x (asinOf x)
 asin-promise = asin-meets halfWidth (lit≤ tt) (lit≤ tt)

@@ -8,8 +8,8 @@ use native.Mathlib.Omega.{arith}
 use native.Mathlib.Decide.{decLe}
 use borrow.Author.Tests.{leb-true, leb-false}
 use lib.IntN.{ℤ}
-use lib.Dec.{T, leb, lit≤, lit<}
-use lib.Ieee.{Float, nan, inf, fin, binary32, up, down, neg, lt, le, eq, isNan, fits}
+use lib.Dec.{leb, lit≤, lit<}
+use lib.Ieee.{Float, nan, inf, fin, up, down, neg, lt, le, eq, isNan}
 use lib.Ieee.Fits.{down-pos}
 use lib.Ieee.Exact.{HasValue}
 use Rattle.arith.specs.Floats.{scaled}
@@ -107,12 +107,12 @@ module _ (w : ℕ) (w1 : 1 ≤ w) (w4 : w ≤ 4) where
       ranged true k h = omega arith
 
   -- the theorem
-  pub atan-meets : (x : Float) → T (fits binary32 x) → EveryNumber (ArctangentAsked w) x (atanOf x)
+  pub atan-meets : (x : Float) → EveryNumber (ArctangentAsked w) x (atanOf x)
   unfolding isNan lt
-  atan-meets nan t = sym (atan-nan nan refl)
-  atan-meets (inf s) t = answer (inf s) 1 0 refl (infinity-brackets w s)
-  atan-meets (fin s m e) t = by-sign (ArctangentAsked w) either-asked s m e (atanOf (fin s m e)) (answer (fin s m e) (m * up e) (down e) refl (number-brackets w s m e))
+  atan-meets nan = sym (atan-nan nan refl)
+  atan-meets (inf s) = answer (inf s) 1 0 refl (infinity-brackets w s)
+  atan-meets (fin s m e) = by-sign (ArctangentAsked w) either-asked s m e (atanOf (fin s m e)) (answer (fin s m e) (m * up e) (down e) refl (number-brackets w s m e))
 
 -- at the width that is promised
-pub atan-promise : (x : Float) → T (fits binary32 x) → EveryNumber (ArctangentAsked halfWidth) x (atanOf x)
+pub atan-promise : (x : Float) → EveryNumber (ArctangentAsked halfWidth) x (atanOf x)
 atan-promise = atan-meets halfWidth (lit≤ tt) (lit≤ tt)

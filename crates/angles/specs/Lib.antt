@@ -28,6 +28,7 @@ pub mod Steps
 pub mod Argument
 pub mod Rounded
 pub mod SinCosBounded
+pub mod Short
 pub mod SinCosLaws
 pub mod LeastLaws
 pub mod Brackets

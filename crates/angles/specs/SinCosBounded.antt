@@ -11,20 +11,23 @@ use lib.Ieee.Nearest.{div-mono}
 use Rattle.angles.specs.Series.{mh, fixed, power, square, d24, d25, sinPlusTerms, sinMinusTerms, cosPlusTerms, cosMinusTerms, sinPlus, sinMinus, cosPlus, cosMinus}
 
 -- ---- the parts rise with the angle
-mh-mono : (a b c d : ℕ) → a ≤ c → b ≤ d → mh a b ≤ mh c d
+pub mh-mono : (a b c d : ℕ) → a ≤ c → b ≤ d → mh a b ≤ mh c d
 mh-mono a b c d h k = div-mono (a * b) (2 ^ 64) (c * d) (2 ^ 64) (lit< tt) (lit< tt) (mul-le-mul-right (2 ^ 64) (mul-le-mul h k))
 
-fixed-mono : (d f : ℕ) (cs : List ℕ) (v w : ℕ) → v ≤ w → fixed d f cs v ≤ fixed d f cs w
+pub fixed-mono : (d f : ℕ) (cs : List ℕ) (v w : ℕ) → v ≤ w → fixed d f cs v ≤ fixed d f cs w
 unfolding fixed
 fixed-mono d f [] v w h = le-refl 0
 fixed-mono d f (c ∷ []) v w h = le-refl (f * c / d)
 fixed-mono d f (c ∷ (c' ∷ cs)) v w h = add-le-add (le-refl (f * c / d)) (mh-mono v (fixed d (512 * f) (c' ∷ cs) v) w (fixed d (512 * f) (c' ∷ cs) w) h (fixed-mono d (512 * f) (c' ∷ cs) v w h))
 
-square-mono : (n k : ℕ) → n ≤ k → square n ≤ square k
+pub square-mono : (n k : ℕ) → n ≤ k → square n ≤ square k
 square-mono n k h = mh-mono n n k k h h
 
-power-mono : (n k : ℕ) → n ≤ k → power n ≤ power k
+pub power-mono : (n k : ℕ) → n ≤ k → power n ≤ power k
 power-mono n k h = mul-le-mul-right 8 (mh-mono (square n) (square n) (square k) (square k) (square-mono n k h) (square-mono n k h))
+
+pub cube-mono : (n k : ℕ) → n ≤ k → mh n (square n) * 4 ≤ mh k (square k) * 4
+cube-mono n k h = mul-le-mul-right 4 (mh-mono n (square n) k (square k) h (square-mono n k h))
 
 abbrev Rises : (ℕ → ℕ) → Type 0
 Rises f = (n k : ℕ) → n ≤ k → f n ≤ f k
@@ -35,7 +38,7 @@ sin-plus-rises n k h = mh-mono n (fixed d25 (2 ^ 60) sinPlusTerms (power n)) k (
 
 sin-minus-rises : Rises sinMinus
 unfolding sinMinus
-sin-minus-rises n k h = mh-mono (mh n (square n) * 4) (fixed d25 (2 ^ 64) sinMinusTerms (power n)) (mh k (square k) * 4) (fixed d25 (2 ^ 64) sinMinusTerms (power k)) (mul-le-mul-right 4 (mh-mono n (square n) k (square k) h (square-mono n k h))) (fixed-mono d25 (2 ^ 64) sinMinusTerms (power n) (power k) (power-mono n k h))
+sin-minus-rises n k h = mh-mono (mh n (square n) * 4) (fixed d25 (2 ^ 64) sinMinusTerms (power n)) (mh k (square k) * 4) (fixed d25 (2 ^ 64) sinMinusTerms (power k)) (cube-mono n k h) (fixed-mono d25 (2 ^ 64) sinMinusTerms (power n) (power k) (power-mono n k h))
 
 -- the cosine's parts at an angle
 abbrev cosAdded : ℕ → ℕ

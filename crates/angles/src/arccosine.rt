@@ -57,7 +57,7 @@ fn steps(neg: bool, t: u64, h: u32) -> u64
     let j = (h / 256) as u64;
     let e = (h / 128 % 2) as u64;
     let s = cosine_sides(neg, j, t);
-    if agrees(s, slack(neg, j), e) {
+    if agrees(s, 0, slack(neg, j), e) {
         j + e
     } else {
         search(Arc::Cosine(neg), t)

@@ -1,11 +1,10 @@
 // The arcsine.
 ghost use mathlib.Core.Path.{_≡_};
-ghost use mathlib.Core.Bool.{not};
+ghost use mathlib.Core.Bool.{true, not};
 ghost use lib.Dec.{T};
 ghost use lib.Ieee.{isNan};
-ghost use Prim.Native.Nat.{ℕ, _^_, _≤_};
-ghost use Rattle.angles.specs.LeastLaws.{Steep};
-ghost use Rattle.angles.specs.Arcsine.{asinTop, asinLow, asinHigh, asinSteps, asinOf};
+ghost use Prim.Native.Nat.{_+_, _^_, _≤_};
+ghost use Rattle.angles.specs.Arcsine.{asinSteps, asinOf};
 use super::grid::in_steps;
 use super::guess::arc;
 use super::guess::in_256ths;
@@ -15,13 +14,18 @@ use super::scale::scaled_by;
 use super::search::Arc;
 use super::search::agrees;
 use super::search::search;
-use super::search::sine_sides;
+use super::search::short_sine_sides;
 
-// What the test's sides part by at the least, from j - 1 to j + 1; 0 where no line says it.
-fn slack(j: u64) -> u64
-    ensures { λ r. ⌜ (r ≤ 2 ^ 40) × ((t : ℕ) → Steep asinLow (asinHigh t) asinTop r j) ⌝ }
+// Whether the short sides at j, which lack at most 2^20, show that the arcsine of t * 2^-57 is j + e steps. Exact ones part by at least 5120 * (6588394 - j), from j - 1 to j + 1; past 6586998 no line says by how much.
+fn is_confirmed(j: u64, e: u64, t: u64) -> bool
+    requires { ⌜ e ≤ 1 ⌝ ∗ ⌜ t ≤ 2 ^ 57 ⌝ }
+    ensures { λ r. ⌜ (r ≡ true → j + e ≡ asinSteps t) ⌝ }
 {
-    if j > 6586998 { 0 } else { 5120 * (6588394 - j) }
+    if j > 6586998 {
+        false
+    } else {
+        agrees(short_sine_sides(j, t), 1048576, 5120 * (6588394 - j), e)
+    }
 }
 
 // The arcsine of t * 2^-57, in steps of 2^-22. The guess h, in 256ths of a step, says where to look first.
@@ -34,8 +38,7 @@ fn steps(t: u64, h: u32) -> u64
     } else {
         let j = (h / 256) as u64;
         let e = (h / 128 % 2) as u64;
-        let s = sine_sides(j, t);
-        if agrees(s, slack(j), e) {
+        if is_confirmed(j, e, t) {
             j + e
         } else {
             search(Arc::Sine, t)

@@ -60,7 +60,7 @@ fn steps(t: u64, h: u32) -> u64
         let j = (h / 256) as u64;
         let e = (h / 128 % 2) as u64;
         let s = tangent_sides(j, t);
-        if agrees(s, slack(t, j), e) {
+        if agrees(s, 0, slack(t, j), e) {
             j + e
         } else {
             search(Arc::Tangent, t)

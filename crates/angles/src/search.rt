@@ -1,15 +1,18 @@
 // The arcs' tests, and the least step at which one fails: by halving, or by a guess that one evaluation confirms.
 ghost use mathlib.Core.Path.{_≡_};
 ghost use mathlib.Core.Bool.{true};
-ghost use Prim.Native.Nat.{_+_, _^_, _≤_, _<_};
+ghost use Prim.Native.Nat.{ℕ, _+_, _^_, _≤_, _<_};
 ghost use Rattle.angles.specs.Least.{least};
 ghost use Rattle.angles.specs.LeastLaws.{Agrees};
-ghost use Rattle.angles.specs.Arcsine.{asinLow, asinHigh};
+ghost use Rattle.angles.specs.Arcsine.{asinTop, asinLow, asinHigh};
+ghost use Rattle.angles.specs.Short.{Close, shortBy};
 ghost use Rattle.angles.specs.Arccosine.{acosLow, acosHigh};
 ghost use Rattle.angles.specs.Arctangent.{atanLow, atanHigh};
 ghost use Rattle.angles.specs.Arcs.{topOf, holdsOf, largestOf};
+use super::series::Parts;
 use super::series::cos_parts;
 use super::series::high_product;
+use super::series::short_sin_parts;
 use super::series::sin_parts;
 
 // Which arc: that of the sine, of the cosine at an argument not below 0 (false) or below it (true), or of the tangent.
@@ -25,15 +28,30 @@ pub(crate) struct Sides {
     pub(crate) high: u64,
 }
 
-pub(crate) fn sine_sides(k: u64, t: u64) -> Sides
-    requires { ⌜ k < 2 ^ 24 ⌝ ∗ ⌜ t ≤ 2 ^ 57 ⌝ }
-    ensures { λ r. ⌜ ((r .low ≡ asinLow k) × (r .high ≡ asinHigh t k)) × (r .high ≤ 2 ^ 63 + 2 ^ 62) ⌝ }
+// The sine's sides, by its parts at the half step.
+fn sine_sides_of(p: Parts, t: u64) -> Sides
+    requires { ⌜ p .plus ≤ 2 ^ 63 ⌝ ∗ ⌜ p .minus ≤ 2 ^ 63 ⌝ ∗ ⌜ t ≤ 2 ^ 57 ⌝ }
+    ensures { λ r. ⌜ ((r .low ≡ p .plus + 64) × (r .high ≡ t + p .minus)) × (r .high ≤ 2 ^ 63 + 2 ^ 62) ⌝ }
 {
-    let p = sin_parts((2 * k + 1) * 274877906944);
     Sides {
         low: p.plus + 64,
         high: t + p.minus,
     }
+}
+
+fn sine_sides(k: u64, t: u64) -> Sides
+    requires { ⌜ k < 2 ^ 24 ⌝ ∗ ⌜ t ≤ 2 ^ 57 ⌝ }
+    ensures { λ r. ⌜ (r .low ≡ asinLow k) × (r .high ≡ asinHigh t k) ⌝ }
+{
+    sine_sides_of(sin_parts((2 * k + 1) * 274877906944), t)
+}
+
+// The same by the short evaluation: each side lacks at most 2^20.
+pub(crate) fn short_sine_sides(k: u64, t: u64) -> Sides
+    requires { ⌜ k ≤ asinTop ⌝ ∗ ⌜ t ≤ 2 ^ 57 ⌝ }
+    ensures { λ r. ⌜ (Close (r .low) (asinLow k) shortBy × Close (r .high) (asinHigh t k) shortBy) × (r .high ≤ 2 ^ 63 + 2 ^ 62) ⌝ }
+{
+    sine_sides_of(short_sin_parts((2 * k + 1) * 274877906944), t)
 }
 
 pub(crate) fn cosine_sides(neg: bool, k: u64, t: u64) -> Sides
@@ -117,11 +135,16 @@ pub(crate) fn search(arc: Arc, t: u64) -> u64
     lo
 }
 
-// Whether the sides at a step are as a guess says, by no more than q: the test fails there (e is 0), or holds (e is 1).
-pub(crate) fn agrees(s: Sides, q: u64, e: u64) -> bool
-    requires { ⌜ s .high ≤ 2 ^ 63 + 2 ^ 62 ⌝ ∗ ⌜ q ≤ 2 ^ 60 ⌝ ∗ ⌜ e ≤ 1 ⌝ }
-    ensures { λ r. ⌜ (r ≡ true → Agrees (s .low) (s .high) q e) ⌝ }
+// Whether the sides at a step are as a guess says, by no more than q: the test fails there (e is 0), or holds (e is 1). Each may lack up to m of the exact side.
+pub(crate) fn agrees(s: Sides, m: u64, q: u64, e: u64) -> bool
+    requires { ⌜ s .high ≤ 2 ^ 63 + 2 ^ 62 ⌝ ∗ ⌜ m ≤ 2 ^ 60 ⌝ ∗ ⌜ q ≤ 2 ^ 60 ⌝ ∗ ⌜ e ≤ 1 ⌝ }
+    ensures { λ r. ⌜ (r ≡ true → (low high : ℕ) → Close (s .low) low m → Close (s .high) high m → Agrees low high q e) ⌝ }
 {
     let far = s.high + q * (1 - e);
-    if s.low <= far { far - s.low < q } else { false }
+    if s.low <= far {
+        let d = far - s.low;
+        m <= d && d + m < q
+    } else {
+        false
+    }
 }

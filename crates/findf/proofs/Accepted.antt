@@ -1,46 +1,87 @@
--- What a check that accepted or refused has shown.
+-- What the answers of the checks show.
 use mathlib.Core.Path.{_≡_, refl}
 use Prim.Native.Nat.{ℕ, zero, suc, _≤_, _<_}
-use mathlib.Core.Bool.{Bool, true, false}
-use mathlib.Core.List.{List}
+use mathlib.Core.Bool.{Bool, true, false, cond}
+use mathlib.Core.List.{List, [], _∷_}
 use native.Mathlib.Omega.{arith}
 use lib.ListN.{getD}
 use lib.Dec.{leb}
 use lib.IntN.{ℤ, pos, negsuc}
+use lib.Ieee.{Float}
 use borrow.Author.Count.{below-more}
 use borrow.Author.Tests.{leb-true}
-use Rattle.limits.specs.Limits.{accepted, refused, checked, kWithin, nangWithin, ifobWithin}
+use Rattle.limits.specs.Limits.{broken, kWithin, freqWithin, ifobWithin}
 use Rattle.limits.specs.LimitsLaws.{both}
 use Rattle.findf.specs.Look.{Entry, Entries}
 use Rattle.findf.specs.Checks.{entriesWithin}
+use Rattle.findf.specs.Findf.{startedOf, limitsOf, admissionBy, refusedOf, unlessRefused}
+use Rattle.findf.specs.FindfLaws.{unbroken}
+use Rattle.findf.specs.declared.checks.Admission.the-variants.{Granted, Refused}
+use Rattle.findf.specs.declared.Reflectrix.{Reflectrix}
+use Rattle.findf.specs.declared.Walked.{Walked}
 
-pub passed : {A : Type 0} (n : ℕ) (b : Bool) (x : A) {y : A} → accepted y ≡ checked n b x → (b ≡ true) × (y ≡ x)
-unfolding checked
-passed n true x e = (refl, cc)
-passed n false x e = let z : _≡_ {A = ℕ} 0 1 = cc in absurd (omega arith)
+-- the first broken limit, by one test and what the limits after it give
+pub kept : (n : ℕ) (b : Bool) (ls : List (ℕ × Bool)) {x : Bool} {later r : ℕ} → r ≡ cond x later n → x ≡ b → later ≡ broken ls → r ≡ broken ((n, b) ∷ ls)
+unfolding broken
+kept n true ls e x l = rw (e, x, l)
+kept n false ls e x l = rw (e, x)
 
-pub failed : {A : Type 0} (n : ℕ) (b : Bool) (x : A) {m : ℕ} → refused m ≡ checked n b x → b ≡ false
-unfolding checked
-failed n true x e = let z : _≡_ {A = ℕ} 0 1 = cc in absurd (omega arith)
-failed n false x e = refl
+pub kept-last : (n : ℕ) (b : Bool) {x : Bool} {r : ℕ} → r ≡ cond x 0 n → x ≡ b → r ≡ broken ((n, b) ∷ [])
+unfolding broken
+kept-last n b e x = kept n b [] e x refl
+
+module _ (second third : Float) where
+  -- a number that is not 0 is that of a refusal
+  pub refused-by : (n : ℕ) → (n ≡ 0 → ⊥) → Refused n ≡ admissionBy n second third
+  unfolding admissionBy
+  refused-by zero h = absurd (h refl)
+  refused-by (suc n) h = refl
+
+  -- a refusal is the answer
+  pub refuses : (n : ℕ) {m : ℕ} (r : Reflectrix) (a : Walked) → Refused m ≡ admissionBy n second third → refusedOf m r ≡ unlessRefused n r a
+  unfolding admissionBy unlessRefused
+  refuses zero r a e = let z : _≡_ {A = ℕ} 0 1 = cc in absurd (omega arith)
+  refuses (suc n) r a e = cc
+
+  -- where the job is granted, no limit is broken
+  pub unrefused : (n : ℕ) {fi1 fi2 : Float} → Granted fi1 fi2 ≡ admissionBy n second third → n ≡ 0
+  unfolding admissionBy
+  unrefused zero e = refl
+  unrefused (suc n) e = let z : _≡_ {A = ℕ} 0 1 = cc in absurd (omega arith)
+
+  -- a job that is granted is walked with the numbers of its point
+  pub walks : (n : ℕ) (r : Reflectrix) (nang : ℕ) (freq amind : Float) (fvert hprim htrue afac : List Float) (ifob : List ℤ) {fi1 fi2 : Float}
+      → Granted fi1 fi2 ≡ admissionBy n second third
+      → startedOf r nang freq amind fi1 fi2 fvert hprim htrue afac ifob
+      ≡ unlessRefused n r (startedOf r nang freq amind second third fvert hprim htrue afac ifob)
+  unfolding admissionBy unlessRefused
+  walks zero r nang freq amind fvert hprim htrue afac ifob e = cc
+  walks (suc n) r nang freq amind fvert hprim htrue afac ifob e = let z : _≡_ {A = ℕ} 0 1 = cc in absurd (omega arith)
 
 entry-of : (v : ℤ) → ifobWithin v ≡ true → Entry v
 entry-of (pos n) e = leb-true n 99999 (both (leb 0 n) (leb n 99999) e .1)
 entry-of (negsuc n) e = let z : _≡_ {A = ℕ} 0 1 = cc in absurd (omega arith)
 
 -- each entry that the scan has passed
-pub entries-to : (ifob : List ℤ) (n : ℕ) → entriesWithin ifob n ≡ true → (i : ℕ) → i < n → Entry (getD ifob i (pos 0))
+entries-to : (ifob : List ℤ) (n : ℕ) → entriesWithin ifob n ≡ true → (i : ℕ) → i < n → Entry (getD ifob i (pos 0))
 unfolding entriesWithin
 entries-to ifob zero e i h = absurd (omega arith)
 entries-to ifob (suc n) e i h =
     let b = both (entriesWithin ifob n) (ifobWithin (getD ifob n (pos 0))) e in
     below-more (λ (k : ℕ). Entry (getD ifob k (pos 0))) n (entries-to ifob n (b .0)) (entry-of (getD ifob n (pos 0)) (b .1)) i (omega arith)
 
-pub entries-of : (ifob : List ℤ) → entriesWithin ifob 1200 ≡ true → Entries ifob
+entries-of : (ifob : List ℤ) → entriesWithin ifob 1200 ≡ true → Entries ifob
 entries-of ifob e = entries-to ifob 1200 e
 
-pub below-five : (k : ℕ) {k' : ℕ} → kWithin k ≡ true → k' ≡ k → k' < 5
-below-five k e p = omega (arith, leb-true k 4 e)
+pub below-five : (k : ℕ) → kWithin k ≡ true → k < 5
+below-five k e = omega (arith, leb-true k 4 e)
 
-pub to-forty : (nang : ℕ) {nang' : ℕ} → nangWithin nang ≡ true → nang' ≡ nang → nang' ≤ 40
-to-forty nang e p = omega (arith, leb-true nang 40 e)
+-- what the walk asks of a job with no broken limit
+pub fit : (k nang : ℕ) (freq amind : Float) (point fvert hprim htrue afac : List Float) (ifob : List ℤ)
+    → broken (limitsOf k nang freq amind point fvert hprim htrue afac ifob) ≡ 0 → Entries ifob × ((nang ≤ 40) × (freqWithin freq ≡ true))
+unfolding limitsOf
+fit k nang freq amind point fvert hprim htrue afac ifob e =
+    let angles = unbroken _ _ _ (unbroken _ _ _ e .1) in
+    let frequency = unbroken _ _ _ (angles .1) in
+    let tables = unbroken _ _ _ (unbroken _ _ _ (unbroken _ _ _ (frequency .1) .1) .1) in
+    (entries-of ifob (unbroken _ _ _ (tables .1) .0), (leb-true nang 40 (angles .0), frequency .0))

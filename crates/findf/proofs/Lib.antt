@@ -2,5 +2,5 @@ pub mod Entry
 pub mod Cut
 pub mod Accepted
 pub mod Steps
-pub mod Answers
 pub mod Fills
+pub mod Begins

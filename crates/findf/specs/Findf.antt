@@ -18,6 +18,10 @@ use Rattle.findf.specs.declared.walk.Walk.{Walk}
 use Rattle.findf.specs.declared.walk.Label.{Label}
 use Rattle.findf.specs.declared.walk.Label.the-variants.{Search, NextLayer, Fill, NextCusp, Done}
 use Rattle.findf.specs.declared.walk.Fill as F
+use Rattle.findf.specs.declared.checks.Admission.{Admission}
+use Rattle.findf.specs.declared.checks.Admission.the-variants.{Granted, Refused}
+use Rattle.findf.specs.declared.Figures.{Figures}
+use Rattle.findf.specs.declared.Outcome.{Outcome}
 use Rattle.findf.specs.declared.Reflectrix.{Reflectrix}
 use Rattle.findf.specs.declared.Walked.{Walked}
 
@@ -150,6 +154,16 @@ limitsOf k nang freq amind point fvert hprim htrue afac ifob =
     ∷ (refusalIfob, entriesWithin ifob 1200)
     ∷ []
 
+-- the answer of the checks: the two numbers of the point, or the number of the broken limit
+unfoldable pub admissionBy : ℕ → Float → Float → Admission
+admissionBy zero second third = Granted second third
+admissionBy (suc n) second third = Refused (suc n)
+
+unfoldable pub admissionOf : ℕ → ℕ → Float → Float → List (List Float) → List Float → List Float → List Float → List Float → List ℤ → Admission
+admissionOf k nang freq amind fi fvert hprim htrue afac ifob =
+    let point = getD fi k [] in
+    admissionBy (broken (limitsOf k nang freq amind point fvert hprim htrue afac ifob)) (getD point 1 nan) (getD point 2 nan)
+
 -- "a refusal changes nothing lent or passed"
 abbrev pub refusedOf : ℕ → Reflectrix → Walked
 refusedOf refusal r = record { refusal = refusal; looks = 0; rfx = r }
@@ -165,3 +179,31 @@ findfOf r k nang freq amind fi fvert hprim htrue afac ifob =
     let point = getD fi k [] in
     unlessRefused (broken (limitsOf k nang freq amind point fvert hprim htrue afac ifob)) r
     (startedOf r nang freq amind (getD point 1 nan) (getD point 2 nan) fvert hprim htrue afac ifob)
+
+-- the reflectrix that seven lent columns and the figures beside them make
+abbrev pub reflectrixFrom : List Float → List Float → List Float → List Float → List Float → List Float → List ℕ → Figures → Reflectrix
+reflectrixFrom delfx hpflx htflx gdflx fvflx afflx imode f =
+    record {
+      delfx = delfx;
+      hpflx = hpflx;
+      htflx = htflx;
+      gdflx = gdflx;
+      fvflx = fvflx;
+      afflx = afflx;
+      imode = imode;
+      dskpkm = f .dskpkm;
+      delskp = f .delskp;
+      hpskp = f .hpskp;
+      htskp = f .htskp;
+      dmaxkm = f .dmaxkm;
+      fvskp = f .fvskp;
+      iskp = f .iskp;
+      delpen = f .delpen;
+      iaftxr = f .iaftxr;
+      «rows_this_call» = f .«rows_this_call»;
+    }
+
+-- the answer that they make once the walk is over
+abbrev pub walkedFrom : List Float → List Float → List Float → List Float → List Float → List Float → List ℕ → Outcome → Walked
+walkedFrom delfx hpflx htflx gdflx fvflx afflx imode o =
+    record { refusal = o .refusal; looks = o .looks; rfx = reflectrixFrom delfx hpflx htflx gdflx fvflx afflx imode (o .figures) }

@@ -21,7 +21,7 @@ use Rattle.findf.specs.declared.Reflectrix.{Reflectrix}
 use Rattle.findf.specs.declared.Walked.{Walked}
 
 -- a list of limits with none broken: the first is passed, and none of the others is broken
-unbroken : (n : ℕ) (b : Bool) (ls : List (ℕ × Bool)) → broken ((suc n, b) ∷ ls) ≡ 0 → (b ≡ true) × (broken ls ≡ 0)
+pub unbroken : (n : ℕ) (b : Bool) (ls : List (ℕ × Bool)) → broken ((suc n, b) ∷ ls) ≡ 0 → (b ≡ true) × (broken ls ≡ 0)
 unfolding broken
 unbroken n true ls e = (refl, e)
 unbroken n false ls e = absurd (omega arith)

@@ -5,38 +5,28 @@ use Rattle.findf.specs.declared.walk.Label.{Label}
 use Rattle.findf.specs.declared.walk.Label.the-variants.{Search, NextLayer, Fill, NextCusp, Done}
 use Rattle.findf.specs.declared.walk.Fill.the-variants.{Exact, Interp, Cusp, NextCusp360}
 
+-- a number for each label: the four fills, then Search, NextLayer, NextCusp and Done
+abbrev pub byLabel : (exact interp cusp next360 search nextLayer nextCusp done : ℕ) → Label → ℕ
+byLabel exact interp cusp next360 search nextLayer nextCusp done (Fill Exact) = exact
+byLabel exact interp cusp next360 search nextLayer nextCusp done (Fill Interp) = interp
+byLabel exact interp cusp next360 search nextLayer nextCusp done (Fill Cusp) = cusp
+byLabel exact interp cusp next360 search nextLayer nextCusp done (Fill NextCusp360) = next360
+byLabel exact interp cusp next360 search nextLayer nextCusp done Search = search
+byLabel exact interp cusp next360 search nextLayer nextCusp done NextLayer = nextLayer
+byLabel exact interp cusp next360 search nextLayer nextCusp done NextCusp = nextCusp
+byLabel exact interp cusp next360 search nextLayer nextCusp done Done = done
+
 -- 1 where an angle is taken
 abbrev pub takes : Label → ℕ
-takes (Fill Exact) = 1
-takes (Fill Interp) = 1
-takes (Fill Cusp) = 1
-takes (Fill NextCusp360) = 0
-takes Search = 0
-takes NextLayer = 0
-takes NextCusp = 0
-takes Done = 0
+takes = byLabel 1 1 1 0 0 0 0 0
 
 -- 1 where the row after ih is read too
 abbrev pub pairs : Label → ℕ
-pairs (Fill Exact) = 0
-pairs (Fill Interp) = 1
-pairs (Fill Cusp) = 0
-pairs (Fill NextCusp360) = 0
-pairs Search = 0
-pairs NextLayer = 0
-pairs NextCusp = 0
-pairs Done = 0
+pairs = byLabel 0 1 0 0 0 0 0 0
 
 -- 1 where the row after ihigh and the row written last are read
 abbrev pub follows : Label → ℕ
-follows (Fill Exact) = 0
-follows (Fill Interp) = 0
-follows (Fill Cusp) = 0
-follows (Fill NextCusp360) = 1
-follows Search = 0
-follows NextLayer = 0
-follows NextCusp = 0
-follows Done = 0
+follows = byLabel 0 0 0 1 0 0 0 0
 
 -- 1 where a row is to be written
 abbrev pub due : Label → ℕ

@@ -11,7 +11,7 @@ use lib.Ieee.{Float}
 use borrow.Author.Tests.{leb-false, eqb-true}
 use Rattle.findf.specs.LookLaws.{Seen, Looks, looks-leave}
 use Rattle.findf.specs.Walk.{searchBy, searchOf, nextLayerBy, nextLayerOf, nextCuspBy, nextCuspOf, backOf, filledBy, filledOf, doneAt, start}
-use Rattle.findf.specs.Safe.{takes, pairs, follows, due, Safe}
+use Rattle.findf.specs.Safe.{byLabel, takes, pairs, follows, due, Safe}
 use Rattle.findf.specs.Findf.{Inputs, stepBy}
 use Rattle.findf.specs.declared.look.Looked.{Looked}
 use Rattle.findf.specs.declared.walk.Walk.{Walk}
@@ -32,36 +32,15 @@ backAt Done = 0
 
 -- 1 after a cusp row: a row is written, and an angle is left
 abbrev pub cusped : Label → ℕ
-cusped (Fill Exact) = 0
-cusped (Fill Interp) = 0
-cusped (Fill Cusp) = 0
-cusped (Fill NextCusp360) = 1
-cusped Search = 0
-cusped NextLayer = 0
-cusped NextCusp = 1
-cusped Done = 0
+cusped = byLabel 0 0 0 1 0 0 1 0
 
 -- how many rows a layer may have beyond its angles, less those that are written
 abbrev pub gain : Label → ℕ
-gain (Fill Exact) = 0
-gain (Fill Interp) = 0
-gain (Fill Cusp) = 0
-gain (Fill NextCusp360) = 1
-gain Search = 0
-gain NextLayer = 2
-gain NextCusp = 1
-gain Done = 2
+gain = byLabel 0 0 0 1 0 2 1 2
 
 -- the label's part of the measure
 abbrev pub rank : Label → ℕ
-rank (Fill Exact) = 18
-rank (Fill Interp) = 18
-rank (Fill Cusp) = 18
-rank (Fill NextCusp360) = 6
-rank Search = 9
-rank NextLayer = 5
-rank NextCusp = 7
-rank Done = 0
+rank = byLabel 18 18 18 6 9 5 7 0
 
 -- 1 above the first layer
 abbrev pub past : ℕ → ℕ

@@ -1,99 +1,15 @@
-// The checks of findf: one enum answer for each limit of document 01, "The bytes of a job", 3 to 6 and 8 to 10.
+// The checks of findf: one answer for the limits of document 01, "The bytes of a job", 3 to 6 and 8 to 10.
 ghost use mathlib.Core.Path.{_≡_};
-ghost use Rattle.limits.specs.Limits as limit;
-ghost use Rattle.limits.specs.Limits.{checked};
-ghost use Rattle.findf.specs.Checks.{pointSays, anglesSays, frequencySays, minimumSays, criticalSays, tablesSays, ifobSays, rowWithin, rowsWithin, entriesWithin};
+ghost use mathlib.Core.Bool.{true, cond};
+ghost use Prim.Native.Nat.{ℕ};
+ghost use Rattle.limits.specs.Limits.{kWithin, broken};
+ghost use Rattle.findf.specs.Checks.{rowWithin, rowsWithin, entriesWithin};
+ghost use Rattle.findf.specs.Findf.{limitsOf, admissionOf};
 
-// 3
-pub(crate) enum Point {
-    At(usize),
-    Outside,
-}
-
-// 4
-pub(crate) enum Angles {
-    Count(usize),
-    Outside,
-}
-
-// 5
-pub(crate) enum Frequency {
-    Mhz(f32),
-    Outside,
-}
-
-// 6
-pub(crate) enum Minimum {
-    Degrees(f32),
-    Outside,
-}
-
-// 8: the second and the third number of the point
-pub(crate) enum Critical {
-    Of(f32, f32),
-    Outside,
-}
-
-// 9
-pub(crate) enum Tables {
-    Within,
-    Outside,
-}
-
-// 10
-pub(crate) enum Ifob {
-    Within,
-    Outside,
-}
-
-pub(crate) fn point_of(k: usize) -> Point
-    ensures { λ r. ⌜ pointSays r ≡ checked limit.refusalK (limit.kWithin k) k ⌝ }
-{
-    if limits::k_within(k) {
-        Point::At(k)
-    } else {
-        Point::Outside
-    }
-}
-
-pub(crate) fn angles_of(nang: usize) -> Angles
-    ensures { λ r. ⌜ anglesSays r ≡ checked limit.refusalNang (limit.nangWithin nang) nang ⌝ }
-{
-    if limits::nang_within(nang) {
-        Angles::Count(nang)
-    } else {
-        Angles::Outside
-    }
-}
-
-pub(crate) fn frequency_of(freq: f32) -> Frequency
-    ensures { λ r. ⌜ frequencySays r ≡ checked limit.refusalFreq (limit.freqWithin freq) freq ⌝ }
-{
-    if limits::freq_within(freq) {
-        Frequency::Mhz(freq)
-    } else {
-        Frequency::Outside
-    }
-}
-
-pub(crate) fn minimum_of(amind: f32) -> Minimum
-    ensures { λ r. ⌜ minimumSays r ≡ checked limit.refusalAmind (limit.amindWithin amind) amind ⌝ }
-{
-    if limits::amind_within(amind) {
-        Minimum::Degrees(amind)
-    } else {
-        Minimum::Outside
-    }
-}
-
-pub(crate) fn critical_of(second: f32, third: f32) -> Critical
-    ensures { λ r. ⌜ criticalSays r ≡ checked limit.refusalFi (limit.fiWithin second third) (second, third) ⌝ }
-{
-    if limits::fi_within(second, third) {
-        Critical::Of(second, third)
-    } else {
-        Critical::Outside
-    }
+// The second and the third number of the job's point, or the number of the first broken limit.
+pub(crate) enum Admission {
+    Granted(f32, f32),
+    Refused(u32),
 }
 
 fn row_within(fvert: f32, hprim: f32, htrue: f32, afac: f32) -> bool
@@ -130,27 +46,75 @@ fn entries_within(ifob: &[i32; 1200]) -> bool
     ok
 }
 
-pub(crate) fn tables_of(
+// The number of a broken limit, else what the later limits give.
+fn kept_or(within: bool, number: u32, later: u32) -> u32
+    ensures { λ r. ⌜ r ≡ cond within later number ⌝ }
+{
+    if within { later } else { number }
+}
+
+// The number of the first broken limit after k's, 0 where none is.
+fn broken_after_k(
+    nang: usize,
+    freq: f32,
+    amind: f32,
+    point: &[f32; 3],
     fvert: &[f32; 30],
     hprim: &[f32; 30],
     htrue: &[f32; 30],
     afac: &[f32; 30],
-) -> Tables
-    ensures { λ r. ⌜ tablesSays r ≡ checked limit.refusalTable (rowsWithin (now (fvert .entry)) (now (hprim .entry)) (now (htrue .entry)) (now (afac .entry)) 30) tt ⌝ }
+    ifob: &[i32; 1200],
+) -> u32
+    ensures { λ r. ⌜ ((k : ℕ) → kWithin k ≡ true → r ≡ broken (limitsOf k nang freq amind (now (point .entry)) (now (fvert .entry)) (now (hprim .entry)) (now (htrue .entry)) (now (afac .entry)) (now (ifob .entry)))) ⌝ }
 {
-    if rows_within(fvert, hprim, htrue, afac) {
-        Tables::Within
-    } else {
-        Tables::Outside
-    }
+    kept_or(
+        limits::nang_within(nang),
+        limits::REFUSAL_NANG,
+        kept_or(
+            limits::freq_within(freq),
+            limits::REFUSAL_FREQ,
+            kept_or(
+                limits::amind_within(amind),
+                limits::REFUSAL_AMIND,
+                kept_or(
+                    limits::fi_within(point[1], point[2]),
+                    limits::REFUSAL_FI,
+                    kept_or(
+                        rows_within(fvert, hprim, htrue, afac),
+                        limits::REFUSAL_TABLE,
+                        kept_or(entries_within(ifob), limits::REFUSAL_IFOB, 0),
+                    ),
+                ),
+            ),
+        ),
+    )
 }
 
-pub(crate) fn ifob_of(ifob: &[i32; 1200]) -> Ifob
-    ensures { λ r. ⌜ ifobSays r ≡ checked limit.refusalIfob (entriesWithin (now (ifob .entry)) 1200) tt ⌝ }
+pub(crate) fn admission_of(
+    k: usize,
+    nang: usize,
+    freq: f32,
+    amind: f32,
+    fi: &[[f32; 3]; 5],
+    fvert: &[f32; 30],
+    hprim: &[f32; 30],
+    htrue: &[f32; 30],
+    afac: &[f32; 30],
+    ifob: &[i32; 1200],
+) -> Admission
+    ensures { λ r. ⌜ r ≡ admissionOf k nang freq amind (now (fi .entry)) (now (fvert .entry)) (now (hprim .entry)) (now (htrue .entry)) (now (afac .entry)) (now (ifob .entry)) ⌝ }
 {
-    if entries_within(ifob) {
-        Ifob::Within
+    if limits::k_within(k) {
+        let point = fi[k];
+        let refusal = broken_after_k(nang, freq, amind, &point, fvert, hprim, htrue, afac, ifob);
+        if refusal == 0 {
+            let second = point[1];
+            let third = point[2];
+            Admission::Granted(second, third)
+        } else {
+            Admission::Refused(refusal)
+        }
     } else {
-        Ifob::Outside
+        Admission::Refused(limits::REFUSAL_K)
     }
 }

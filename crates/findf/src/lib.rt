@@ -1,11 +1,11 @@
 // Translated from hfcast-engine (commit bf34e8f9f3), src/voacap/modes.rs lines 130 to 153 and 670 to 904, and changed.
-// findf by value: the reflectrix of one frequency in one area.
+// findf: the reflectrix of one frequency in one area, into lent columns or by value.
 ghost use mathlib.Core.Path.{_≡_};
 ghost use Prim.Native.Nat.{_+_, _-_, _*_, _≤_};
 ghost use mathlib.Core.Bool.{true};
 ghost use Rattle.limits.specs.Limits.{freqWithin};
 ghost use Rattle.findf.specs.Look.{Entries};
-ghost use Rattle.findf.specs.Findf.{inputsOf, jfhzOf, unlessOf, refusedOf, walkedOf, startedOf, findfOf};
+ghost use Rattle.findf.specs.Findf.{inputsOf, jfhzOf, unlessOf, walkedOf, startedOf, findfOf, reflectrixFrom, walkedFrom};
 
 mod checks;
 mod look;
@@ -13,13 +13,7 @@ mod penang;
 mod rows;
 mod walk;
 
-use checks::Angles;
-use checks::Critical;
-use checks::Frequency;
-use checks::Ifob;
-use checks::Minimum;
-use checks::Point;
-use checks::Tables;
+use checks::Admission;
 use rows::Skip;
 use walk::Label;
 use walk::Walk;
@@ -45,6 +39,29 @@ pub struct Reflectrix {
     pub rows_this_call: usize,
 }
 
+// The numbers of a reflectrix beside its columns.
+#[repr(C)]
+pub struct Figures {
+    pub dskpkm: f32,
+    pub delskp: f32,
+    pub hpskp: f32,
+    pub htskp: f32,
+    pub dmaxkm: f32,
+    pub fvskp: f32,
+    pub iskp: u32,
+    pub delpen: [f32; 3],
+    pub iaftxr: usize,
+    pub rows_this_call: usize,
+}
+
+// The refusal's number, 0 where there is none; the turns of the inner loop; the figures, as they came where it is refused.
+#[repr(C)]
+pub struct Outcome {
+    pub refusal: u32,
+    pub looks: u32,
+    pub figures: Figures,
+}
+
 // The refusal's number, 0 where there is none; the turns of the inner loop; the reflectrix, as it came where it is refused.
 #[repr(C)]
 pub struct Walked {
@@ -67,19 +84,16 @@ fn unless(dead: bool, x: f32) -> f32
     if dead { -1.0 } else { x }
 }
 
-fn refused(refusal: u32, rfx: Reflectrix) -> Walked
-    ensures { λ r. ⌜ r ≡ refusedOf refusal rfx ⌝ }
-{
-    Walked {
-        refusal: refusal,
-        looks: 0,
-        rfx: rfx,
-    }
-}
-
 // The walk from its start to Done, a row written in place at each fill.
 fn walk_rows(
-    rfx: Reflectrix,
+    delfx: &mut [f32; 45],
+    hpflx: &mut [f32; 45],
+    htflx: &mut [f32; 45],
+    gdflx: &mut [f32; 45],
+    fvflx: &mut [f32; 45],
+    afflx: &mut [f32; 45],
+    imode: &mut [u32; 45],
+    figures: Figures,
     nang: usize,
     freq: f32,
     amind: f32,
@@ -92,11 +106,12 @@ fn walk_rows(
     htrue: &[f32; 30],
     afac: &[f32; 30],
     ifob: &[i32; 1200],
-) -> Walked
+) -> Outcome
     requires { ⌜ Entries (now ifob) × ((nang ≤ 40) × (jfhz ≤ 99999)) ⌝ }
-    ensures { λ r. ⌜ r ≡ walkedOf (inputsOf nang freq amind jfhz fi1 fc2 (now (delpen .entry)) (now (fvert .entry)) (now (hprim .entry)) (now (htrue .entry)) (now (afac .entry)) (now (ifob .entry))) rfx ⌝ }
+    ensures { λ r. ⌜ walkedFrom (now (delfx .exit)) (now (hpflx .exit)) (now (htflx .exit)) (now (gdflx .exit)) (now (fvflx .exit)) (now (afflx .exit)) (now (imode .exit)) r ≡ walkedOf (inputsOf nang freq amind jfhz fi1 fc2 (now (delpen .entry)) (now (fvert .entry)) (now (hprim .entry)) (now (htrue .entry)) (now (afac .entry)) (now (ifob .entry))) (reflectrixFrom (now (delfx .entry)) (now (hpflx .entry)) (now (htflx .entry)) (now (gdflx .entry)) (now (fvflx .entry)) (now (afflx .entry)) (now (imode .entry)) figures) ⌝ }
 {
-    let mut r = rfx;
+    let ang = &walk::ANG;
+    let mut f = figures;
     let mut w = Walk {
         label: Label::Search,
         ia: 0,
@@ -111,7 +126,7 @@ fn walk_rows(
         let label = w.label;
         match label {
             Label::Search => {
-                w = walk::search(ifob, delpen, jfhz, nang, w);
+                w = walk::search(ang, ifob, delpen, jfhz, nang, w);
             }
             Label::NextLayer => {
                 w = walk::next_layer(fi1, w);
@@ -123,13 +138,14 @@ fn walk_rows(
                 let i = w.rows;
                 let il = w.il;
                 let t = rows::row_of(
+                    ang,
                     fvert,
                     hprim,
                     htrue,
                     afac,
                     ifob,
                     delpen,
-                    &r.delfx,
+                    &*delfx,
                     fi1,
                     fc2,
                     freq,
@@ -139,40 +155,41 @@ fn walk_rows(
                 );
                 let s = rows::skip_of(
                     Skip {
-                        dskpkm: r.dskpkm,
-                        delskp: r.delskp,
-                        hpskp: r.hpskp,
-                        htskp: r.htskp,
-                        fvskp: r.fvskp,
-                        iskp: r.iskp,
+                        dskpkm: f.dskpkm,
+                        delskp: f.delskp,
+                        hpskp: f.hpskp,
+                        htskp: f.htskp,
+                        fvskp: f.fvskp,
+                        iskp: f.iskp,
                     },
                     t,
                     il as u32,
                 );
-                let d = rows::far(r.dmaxkm, t.gdr, t.del, amind);
-                r.delfx[i] = t.del;
-                r.hpflx[i] = t.hp;
-                r.htflx[i] = t.ht;
-                r.gdflx[i] = t.gdr;
-                r.fvflx[i] = t.fv;
-                r.afflx[i] = t.af;
-                r.imode[i] = t.mode;
-                r.dskpkm = s.dskpkm;
-                r.delskp = s.delskp;
-                r.hpskp = s.hpskp;
-                r.htskp = s.htskp;
-                r.fvskp = s.fvskp;
-                r.iskp = s.iskp;
-                r.dmaxkm = d;
-                r.iaftxr = i + 1;
-                r.rows_this_call = i + 1;
+                let d = rows::far(f.dmaxkm, t.gdr, t.del, amind);
+                delfx[i] = t.del;
+                hpflx[i] = t.hp;
+                htflx[i] = t.ht;
+                gdflx[i] = t.gdr;
+                fvflx[i] = t.fv;
+                afflx[i] = t.af;
+                imode[i] = t.mode;
+                f.dskpkm = s.dskpkm;
+                f.delskp = s.delskp;
+                f.hpskp = s.hpskp;
+                f.htskp = s.htskp;
+                f.fvskp = s.fvskp;
+                f.iskp = s.iskp;
+                f.dmaxkm = d;
+                let count = i + 1;
+                f.iaftxr = count;
+                f.rows_this_call = count;
                 w = walk::filled(fill, w);
             }
             Label::Done => {
-                return Walked {
+                return Outcome {
                     refusal: 0,
                     looks: w.looks,
-                    rfx: r,
+                    figures: f,
                 };
             }
         }
@@ -181,7 +198,14 @@ fn walk_rows(
 
 // The start's contents and the penetration angles, then the walk.
 fn started(
-    rfx: Reflectrix,
+    delfx: &mut [f32; 45],
+    hpflx: &mut [f32; 45],
+    htflx: &mut [f32; 45],
+    gdflx: &mut [f32; 45],
+    fvflx: &mut [f32; 45],
+    afflx: &mut [f32; 45],
+    imode: &mut [u32; 45],
+    figures: Figures,
     nang: usize,
     freq: f32,
     amind: f32,
@@ -192,23 +216,30 @@ fn started(
     htrue: &[f32; 30],
     afac: &[f32; 30],
     ifob: &[i32; 1200],
-) -> Walked
+) -> Outcome
     requires { ⌜ Entries (now ifob) × ((nang ≤ 40) × (freqWithin freq ≡ true)) ⌝ }
-    ensures { λ r. ⌜ r ≡ startedOf rfx nang freq amind fi1 fi2 (now (fvert .entry)) (now (hprim .entry)) (now (htrue .entry)) (now (afac .entry)) (now (ifob .entry)) ⌝ }
+    ensures { λ r. ⌜ walkedFrom (now (delfx .exit)) (now (hpflx .exit)) (now (htflx .exit)) (now (gdflx .exit)) (now (fvflx .exit)) (now (afflx .exit)) (now (imode .exit)) r ≡ startedOf (reflectrixFrom (now (delfx .entry)) (now (hpflx .entry)) (now (htflx .entry)) (now (gdflx .entry)) (now (fvflx .entry)) (now (afflx .entry)) (now (imode .entry)) figures) nang freq amind fi1 fi2 (now (fvert .entry)) (now (hprim .entry)) (now (htrue .entry)) (now (afac .entry)) (now (ifob .entry)) ⌝ }
 {
     let jfhz = jfhz(freq);
-    let mut r = rfx;
-    r.hpflx = [0.0; 45];
-    r.delfx = [0.0; 45];
-    r.gdflx = [0.0; 45];
-    r.rows_this_call = 0;
+    *hpflx = [0.0; 45];
+    *delfx = [0.0; 45];
+    *gdflx = [0.0; 45];
+    let mut f = figures;
+    f.rows_this_call = 0;
     let p = penang::penang(fvert, htrue, fi1, freq);
     let delpen = p.delpen;
-    r.dmaxkm = unless(p.dead, 0.0);
-    r.dskpkm = unless(p.dead, 10000.0);
-    r.delpen = delpen;
+    f.dmaxkm = unless(p.dead, 0.0);
+    f.dskpkm = unless(p.dead, 10000.0);
+    f.delpen = delpen;
     walk_rows(
-        r,
+        delfx,
+        hpflx,
+        htflx,
+        gdflx,
+        fvflx,
+        afflx,
+        imode,
+        f,
         nang,
         freq,
         amind,
@@ -224,6 +255,71 @@ fn started(
     )
 }
 
+// A walk of one frequency, its rows written into the columns. A refusal leaves the columns and the figures as they came.
+pub fn findf_into(
+    delfx: &mut [f32; 45],
+    hpflx: &mut [f32; 45],
+    htflx: &mut [f32; 45],
+    gdflx: &mut [f32; 45],
+    fvflx: &mut [f32; 45],
+    afflx: &mut [f32; 45],
+    imode: &mut [u32; 45],
+    figures: Figures,
+    k: usize,
+    nang: usize,
+    freq: f32,
+    amind: f32,
+    fi: [[f32; 3]; 5],
+    fvert: &[f32; 30],
+    hprim: &[f32; 30],
+    htrue: &[f32; 30],
+    afac: &[f32; 30],
+    ifob: &[i32; 1200],
+) -> Outcome
+    ensures { λ r. ⌜ walkedFrom (now (delfx .exit)) (now (hpflx .exit)) (now (htflx .exit)) (now (gdflx .exit)) (now (fvflx .exit)) (now (afflx .exit)) (now (imode .exit)) r ≡ findfOf (reflectrixFrom (now (delfx .entry)) (now (hpflx .entry)) (now (htflx .entry)) (now (gdflx .entry)) (now (fvflx .entry)) (now (afflx .entry)) (now (imode .entry)) figures) k nang freq amind fi (now (fvert .entry)) (now (hprim .entry)) (now (htrue .entry)) (now (afac .entry)) (now (ifob .entry)) ⌝ }
+{
+    let admission = checks::admission_of(
+        k,
+        nang,
+        freq,
+        amind,
+        &fi,
+        fvert,
+        hprim,
+        htrue,
+        afac,
+        ifob,
+    );
+    match admission {
+        Admission::Refused(refusal) => Outcome {
+            refusal: refusal,
+            looks: 0,
+            figures: figures,
+        },
+        Admission::Granted(fi1, fi2) => started(
+            delfx,
+            hpflx,
+            htflx,
+            gdflx,
+            fvflx,
+            afflx,
+            imode,
+            figures,
+            nang,
+            freq,
+            amind,
+            fi1,
+            fi2,
+            fvert,
+            hprim,
+            htrue,
+            afac,
+            ifob,
+        ),
+    }
+}
+
+// By value: the same over its own copies of the columns.
 pub fn findf(
     rfx: Reflectrix,
     k: usize,
@@ -239,39 +335,68 @@ pub fn findf(
 ) -> Walked
     ensures { λ r. ⌜ r ≡ findfOf rfx k nang freq amind fi fvert hprim htrue afac ifob ⌝ }
 {
-    let Point::At(k) = checks::point_of(k) else {
-        return refused(limits::REFUSAL_K, rfx);
-    };
-    let Angles::Count(nang) = checks::angles_of(nang) else {
-        return refused(limits::REFUSAL_NANG, rfx);
-    };
-    let Frequency::Mhz(freq) = checks::frequency_of(freq) else {
-        return refused(limits::REFUSAL_FREQ, rfx);
-    };
-    let Minimum::Degrees(amind) = checks::minimum_of(amind) else {
-        return refused(limits::REFUSAL_AMIND, rfx);
-    };
-    let point = fi[k];
-    let Critical::Of(fi1, fi2) = checks::critical_of(point[1], point[2]) else {
-        return refused(limits::REFUSAL_FI, rfx);
-    };
-    let Tables::Within = checks::tables_of(&fvert, &hprim, &htrue, &afac) else {
-        return refused(limits::REFUSAL_TABLE, rfx);
-    };
-    let Ifob::Within = checks::ifob_of(&ifob) else {
-        return refused(limits::REFUSAL_IFOB, rfx);
-    };
-    started(
-        rfx,
+    let mut delfx = rfx.delfx;
+    let mut hpflx = rfx.hpflx;
+    let mut htflx = rfx.htflx;
+    let mut gdflx = rfx.gdflx;
+    let mut fvflx = rfx.fvflx;
+    let mut afflx = rfx.afflx;
+    let mut imode = rfx.imode;
+    let delpen = rfx.delpen;
+    let o = findf_into(
+        &mut delfx,
+        &mut hpflx,
+        &mut htflx,
+        &mut gdflx,
+        &mut fvflx,
+        &mut afflx,
+        &mut imode,
+        Figures {
+            dskpkm: rfx.dskpkm,
+            delskp: rfx.delskp,
+            hpskp: rfx.hpskp,
+            htskp: rfx.htskp,
+            dmaxkm: rfx.dmaxkm,
+            fvskp: rfx.fvskp,
+            iskp: rfx.iskp,
+            delpen: delpen,
+            iaftxr: rfx.iaftxr,
+            rows_this_call: rfx.rows_this_call,
+        },
+        k,
         nang,
         freq,
         amind,
-        fi1,
-        fi2,
+        fi,
         &fvert,
         &hprim,
         &htrue,
         &afac,
         &ifob,
-    )
+    );
+    let f = o.figures;
+    let delpen = f.delpen;
+    Walked {
+        refusal: o.refusal,
+        looks: o.looks,
+        rfx: Reflectrix {
+            delfx: delfx,
+            hpflx: hpflx,
+            htflx: htflx,
+            gdflx: gdflx,
+            fvflx: fvflx,
+            afflx: afflx,
+            imode: imode,
+            dskpkm: f.dskpkm,
+            delskp: f.delskp,
+            hpskp: f.hpskp,
+            htskp: f.htskp,
+            dmaxkm: f.dmaxkm,
+            fvskp: f.fvskp,
+            iskp: f.iskp,
+            delpen: delpen,
+            iaftxr: f.iaftxr,
+            rows_this_call: f.rows_this_call,
+        },
+    }
 }

@@ -3,10 +3,10 @@
 ghost use mathlib.Core.Path.{_≡_};
 ghost use Prim.Native.Nat.{_+_, _-_, _*_, _≤_, _<_};
 ghost use Rattle.findf.specs.Look.{Entries};
+ghost use Rattle.findf.specs.Walk.{angles};
 ghost use Rattle.findf.specs.Rows.{gapOf, slopeOf, rawAt, rawBetween, nextModeOf, modeOf, rawOf, rcosdOf, correctedOf, rowOf, skipOf, farOf};
 ghost use Rattle.findf.specs.Safe.{Safe};
 use super::look;
-use super::walk;
 use super::walk::Fill;
 use super::walk::Label;
 use super::walk::Walk;
@@ -128,6 +128,7 @@ fn next_mode(il: u32, fi1: f32) -> u32
 }
 
 fn raw_of(
+    ang: &[f32; 40],
     fvert: &[f32; 30],
     hprim: &[f32; 30],
     htrue: &[f32; 30],
@@ -139,7 +140,7 @@ fn raw_of(
     fill: Fill,
     w: Walk,
 ) -> Raw
-    requires { ⌜ Entries (now ifob) × ((jfhz ≤ 99999) × Safe (Label.Fill fill) w) ⌝ }
+    requires { ⌜ (now ang ≡ angles) × (Entries (now ifob) × ((jfhz ≤ 99999) × Safe (Label.Fill fill) w)) ⌝ }
     ensures { λ r. ⌜ r ≡ rawOf (now (fvert .entry)) (now (hprim .entry)) (now (htrue .entry)) (now (afac .entry)) (now (ifob .entry)) (now (delpen .entry)) (now (delfx .entry)) jfhz fill w ⌝ }
 {
     let ia = w.ia;
@@ -148,11 +149,11 @@ fn raw_of(
     let ihigh = w.ihigh;
     let i = w.rows;
     match fill {
-        Fill::Exact => raw_at(fvert, hprim, htrue, afac, ih - 1, walk::ang(ia - 1)),
+        Fill::Exact => raw_at(fvert, hprim, htrue, afac, ih - 1, ang[ia - 1]),
         Fill::Interp => {
             let at = (ia - 1) * 30 + ih;
             let s = slope(look::entry(ifob, at - 1), look::entry(ifob, at), jfhz);
-            raw_between(fvert, hprim, htrue, afac, ih - 1, walk::ang(ia - 1), s)
+            raw_between(fvert, hprim, htrue, afac, ih - 1, ang[ia - 1], s)
         }
         Fill::Cusp => raw_at(fvert, hprim, htrue, afac, ihigh - 1, delpen[il - 1]),
         Fill::NextCusp360 => raw_at(fvert, hprim, htrue, afac, ihigh, delfx[i - 1] + 0.001),
@@ -181,6 +182,7 @@ fn martyn(freq: f32, fc2: f32, del: f32, rcosd: f32, ht: f32, fv: f32, hp: f32) 
 }
 
 pub(crate) fn row_of(
+    ang: &[f32; 40],
     fvert: &[f32; 30],
     hprim: &[f32; 30],
     htrue: &[f32; 30],
@@ -195,10 +197,11 @@ pub(crate) fn row_of(
     fill: Fill,
     w: Walk,
 ) -> Row
-    requires { ⌜ Entries (now ifob) × ((jfhz ≤ 99999) × Safe (Label.Fill fill) w) ⌝ }
+    requires { ⌜ (now ang ≡ angles) × (Entries (now ifob) × ((jfhz ≤ 99999) × Safe (Label.Fill fill) w)) ⌝ }
     ensures { λ r. ⌜ r ≡ rowOf (now (fvert .entry)) (now (hprim .entry)) (now (htrue .entry)) (now (afac .entry)) (now (ifob .entry)) (now (delpen .entry)) (now (delfx .entry)) fi1 fc2 freq jfhz fill w ⌝ }
 {
     let a = raw_of(
+        ang,
         fvert,
         hprim,
         htrue,

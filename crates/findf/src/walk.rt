@@ -1,14 +1,14 @@
 // Translated from hfcast-engine (commit bf34e8f9f3), src/voacap/modes.rs lines 699 to 809 and 890 to 899, and ionogram.rs lines 23 to 28, and changed.
 // The walk of findf: its labels, its state, and each step that writes no row.
 ghost use mathlib.Core.Path.{_≡_};
-ghost use Prim.Native.Nat.{_+_, _-_, _*_, _≤_, _<_};
+ghost use Prim.Native.Nat.{_+_, _-_, _*_, _≤_};
 ghost use Rattle.findf.specs.Look.{Entries};
-ghost use Rattle.findf.specs.Walk.{angOf, withLabel, searchOf, nextLayerOf, nextCuspOf, afterOf, backOf, filledOf};
+ghost use Rattle.findf.specs.Walk.{angles, withLabel, searchOf, nextLayerOf, nextCuspOf, afterOf, backOf, filledOf};
 ghost use Rattle.findf.specs.Safe.{Safe};
 use super::look;
 
 // The 40 take-off angles, in degrees.
-const ANG: [f32; 40] = [
+pub(crate) const ANG: [f32; 40] = [
     0.0,
     0.5,
     1.0,
@@ -78,13 +78,6 @@ pub(crate) struct Walk {
     pub looks: u32,
 }
 
-pub(crate) fn ang(i: usize) -> f32
-    requires { ⌜ i < 40 ⌝ }
-    ensures { λ r. ⌜ r ≡ angOf i ⌝ }
-{
-    ANG[i]
-}
-
 fn with_label(w: Walk, l: Label) -> Walk
     ensures { λ r. ⌜ r ≡ withLabel w l ⌝ }
 {
@@ -100,8 +93,15 @@ fn with_label(w: Walk, l: Label) -> Walk
     }
 }
 
-pub(crate) fn search(ifob: &[i32; 1200], delpen: &[f32; 3], jfhz: u32, nang: usize, w: Walk) -> Walk
-    requires { ⌜ Entries (now ifob) × ((nang ≤ 40) × Safe (w .label) w) ⌝ }
+pub(crate) fn search(
+    ang: &[f32; 40],
+    ifob: &[i32; 1200],
+    delpen: &[f32; 3],
+    jfhz: u32,
+    nang: usize,
+    w: Walk,
+) -> Walk
+    requires { ⌜ (now ang ≡ angles) × (Entries (now ifob) × ((nang ≤ 40) × Safe (w .label) w)) ⌝ }
     ensures { λ r. ⌜ r ≡ searchOf (now (ifob .entry)) (now (delpen .entry)) jfhz nang w ⌝ }
 {
     let il = w.il;
@@ -116,7 +116,7 @@ pub(crate) fn search(ifob: &[i32; 1200], delpen: &[f32; 3], jfhz: u32, nang: usi
     if ia >= nang {
         return with_label(w, Label::Done);
     }
-    if del - ang(ia) <= 0.0 {
+    if del - ang[ia] <= 0.0 {
         return Walk {
             label: Label::Fill(Fill::Cusp),
             ia: ia + 1,

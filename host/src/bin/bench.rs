@@ -82,7 +82,10 @@ fn walks_and_searches() {
     let rust_jobs = jobs.each_ref().map(|job| (IonoState::from(job), AreaTables::from(job)));
     let rfx = Reflectrix::random(&mut prng);
     let mut ours_rfx = rfx;
-    let ours = time(|i| ours_rfx = findf::ours(ours_rfx, black_box(&jobs[i % JOBS])).rfx);
+    let by_value = time(|i| ours_rfx = findf::ours(ours_rfx, black_box(&jobs[i % JOBS])).rfx);
+    let in_place = time(|i| {
+        findf::in_place(black_box(&mut ours_rfx), black_box(&jobs[i % JOBS]));
+    });
     let mut rust_rfx = oracle::Reflectrix::from(rfx);
     let mut rust = |findf: findf::RustFindf| {
         time(|i| {
@@ -92,7 +95,8 @@ fn walks_and_searches() {
         })
     };
     let (as_it_comes, led) = (rust(as_it_comes::findf), rust(led::findf));
-    print("findf, realistic", ours, as_it_comes);
+    print("findf, by value", by_value, as_it_comes);
+    print("  in place", in_place, as_it_comes);
     print("  the led Rust", led, as_it_comes);
 
     let jobs: [FdistJob; JOBS] = std::array::from_fn(|_| fdist::after_a_walk(&mut prng));

@@ -1,5 +1,7 @@
-use Rattle.findf.specs.Findf.{startedOf}
+use mathlib.Core.Path.{_∙_}
+use native.Mathlib.Omega.{arith}
 use borrow.Author.Needs.{needs}
+use Rattle.findf.proofs.Begins.{begins}
 use Rattle.findf.proofs.started.Statement.{statement}
 use Rattle.findf.proofs.started.Tie as tie
 
@@ -16,12 +18,15 @@ unless-requires-2 : tie.Need-unless-requires-2
 unless-requires-2 c κs = search needs
 
 walk-rows-requires : tie.Need-walk-rows-requires
-walk-rows-requires c κs = search needs
+walk-rows-requires c κs =
+    let first = c .before .before .before .before .before .before .before .before .before .before .before .before .before .before .before in
+    (first .before .pre .0, (first .before .pre .1 .0, omega (arith, first .jfhz .ensures .1)))
 
 returns : tie.Need-returns
-unfolding startedOf
 returns c =
-    simp (← c .before .before .before .before .before .before .before .before .before .jfhz .ensures .0, ← c .before .before .before .before .before .penang .ensures, ← c .before .before .before .unless .ensures, ← c .before .before .unless2 .ensures, ← c .walk-rows .ensures)
+    let second = c .before .before .before .before .before .before .before .before .before in
+    let first = second .before .before .before in
+    c .walk-rows .ensures ∙ begins _ _ _ _ _ _ _ _ _ _ _ (first .before .before .before .before .jfhz .ensures .0) (first .penang .ensures) (second .before .unless .ensures) (second .unless2 .ensures)
 
 pub started-spec : {M : Type 1} → statement M
 started-spec =

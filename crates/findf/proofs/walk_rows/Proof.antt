@@ -1,23 +1,25 @@
-use mathlib.Core.Path.{ap, subst}
+use mathlib.Core.Path.{refl, ap, subst}
 use native.Mathlib.Omega.{arith}
 use borrow.Author.Needs.{needs}
 use Rattle.arith.specs.RunLaws.{Leads, leads-start, leads-more, leads-done}
-use Rattle.findf.specs.Walk.{start}
+use Rattle.findf.specs.Walk.{angles, start}
 use Rattle.findf.specs.Safe.{Safe}
 use Rattle.findf.specs.WalkLaws.{μ, Good, good-safe, steps-fine, search-fine, next-layer-fine, next-cusp-fine, filled-fine}
-use Rattle.findf.specs.Findf.{inputsOf, turnOf, walkOf, walkedOf, answer}
+use Rattle.findf.specs.Findf.{inputsOf, turnOf, walkOf, walkedOf, answer, reflectrixFrom}
 use Rattle.findf.specs.declared.walk.Label.{Label}
 use Rattle.findf.proofs.Steps.{searches, next-layers, next-cusps, fills, ends}
 use Rattle.findf.proofs.walk_rows.Statement.{statement}
 use Rattle.findf.proofs.walk_rows.Tie as tie
 
 abbrev Inv-loop : tie.InvT-loop
-Inv-loop nang freq amind jfhz fi1 fc2 delpen fvert hprim htrue afac ifob r₀ w₀ r w =
+Inv-loop delfx₀ hpflx₀ htflx₀ gdflx₀ fvflx₀ afflx₀ imode₀ nang freq amind jfhz fi1 fc2 delpen fvert hprim htrue afac ifob ang f₀ w₀ delfx hpflx htflx gdflx fvflx afflx imode f w =
     let e = inputsOf nang freq amind jfhz fi1 fc2 delpen fvert hprim htrue afac ifob in
+    let r₀ = reflectrixFrom delfx₀ hpflx₀ htflx₀ gdflx₀ fvflx₀ afflx₀ imode₀ f₀ in
+    let r = reflectrixFrom delfx hpflx htflx gdflx fvflx afflx imode f in
     Good nang w × Leads (turnOf e) (start, r₀) (μ (w .label) w) (w, r) (walkOf e r₀)
 
 abbrev μ-loop : tie.MeasureT-loop
-μ-loop nang freq amind jfhz fi1 fc2 delpen fvert hprim htrue afac ifob r₀ w₀ r w = μ (w .label) w
+μ-loop delfx₀ hpflx₀ htflx₀ gdflx₀ fvflx₀ afflx₀ imode₀ nang freq amind jfhz fi1 fc2 delpen fvert hprim htrue afac ifob ang f₀ w₀ delfx hpflx htflx gdflx fvflx afflx imode f w = μ (w .label) w
 
 loop-holds : tie.Need-loop-holds Inv-loop μ-loop
 unfolding walkOf
@@ -27,7 +29,8 @@ enum-told : tie.Need-enum-told Inv-loop μ-loop
 enum-told c = search needs
 
 search-requires : tie.Need-search-requires Inv-loop μ-loop
-search-requires c κs = (c .before .before .before .pre .0, (c .before .before .before .pre .1 .0, good-safe (c .before .before .loop .inv .0)))
+unfolding angles
+search-requires c κs = (refl, (c .before .before .before .before .pre .0, (c .before .before .before .before .pre .1 .0, good-safe (c .before .before .loop .inv .0))))
 
 loop-less : tie.Need-loop-less Inv-loop μ-loop
 loop-less c = steps-fine (c .before .enum-told .given .1) (c .before .before .before .loop .inv .0) (c .search .ensures) (search-fine _ _ _ _ _) .falls
@@ -69,10 +72,11 @@ enum-known-label : tie.Need-enum-known-label Inv-loop μ-loop
 enum-known-label c = search needs
 
 row-of-requires : tie.Need-row-of-requires Inv-loop μ-loop
-row-of-requires c κs = (c .before .before .before .before .before .before .pre .0, (c .before .before .before .before .before .before .pre .1 .1, subst (λ (l : Label). Safe l (c .before .before .before .before .before .loop .w)) (c .before .before .before .label .given .1) (good-safe (c .before .before .before .before .before .loop .inv .0))))
+unfolding angles
+row-of-requires c κs = (refl, (c .before .before .before .before .before .before .pre .0, (c .before .before .before .before .before .before .pre .1 .1, subst (λ (l : Label). Safe l (c .before .before .before .before .loop .w)) (c .before .before .label .given .1) (good-safe (c .before .before .before .before .loop .inv .0)))))
 
 cast-skip-of : tie.Need-cast-skip-of Inv-loop μ-loop
-cast-skip-of c = omega (arith, c .before .before .before .before .before .before .loop .inv .0)
+cast-skip-of c = omega (arith, c .before .before .before .before .before .loop .inv .0)
 
 skip-of-requires : tie.Need-skip-of-requires Inv-loop μ-loop
 skip-of-requires c κs = search needs
@@ -80,65 +84,62 @@ skip-of-requires c κs = search needs
 far-requires : tie.Need-far-requires Inv-loop μ-loop
 far-requires c κs = search needs
 
-mul-r : tie.Need-mul-r Inv-loop μ-loop
-mul-r c = omega (arith, c .before .before .before .before .before .before .before .before .loop .inv .0)
+mul-delfx : tie.Need-mul-delfx Inv-loop μ-loop
+mul-delfx c = omega (arith, c .before .before .before .before .before .before .before .loop .inv .0)
 
-element-write-r : tie.Need-element-write-r Inv-loop μ-loop
-element-write-r c = omega (arith, c .before .before .before .before .before .before .before .before .loop .inv .0)
+element-write-delfx : tie.Need-element-write-delfx Inv-loop μ-loop
+element-write-delfx c = omega (arith, c .before .before .before .before .before .before .before .loop .inv .0)
 
-mul-r-2 : tie.Need-mul-r-2 Inv-loop μ-loop
-mul-r-2 c = omega (arith, c .before .before .before .before .before .before .before .before .loop .inv .0)
+mul-hpflx : tie.Need-mul-hpflx Inv-loop μ-loop
+mul-hpflx c = omega (arith, c .before .before .before .before .before .before .before .loop .inv .0)
 
-element-write-r-2 : tie.Need-element-write-r-2 Inv-loop μ-loop
-element-write-r-2 c = omega (arith, c .before .before .before .before .before .before .before .before .loop .inv .0)
+element-write-hpflx : tie.Need-element-write-hpflx Inv-loop μ-loop
+element-write-hpflx c = omega (arith, c .before .before .before .before .before .before .before .loop .inv .0)
 
-mul-r-3 : tie.Need-mul-r-3 Inv-loop μ-loop
-mul-r-3 c = omega (arith, c .before .before .before .before .before .before .before .before .loop .inv .0)
+mul-htflx : tie.Need-mul-htflx Inv-loop μ-loop
+mul-htflx c = omega (arith, c .before .before .before .before .before .before .before .loop .inv .0)
 
-element-write-r-3 : tie.Need-element-write-r-3 Inv-loop μ-loop
-element-write-r-3 c = omega (arith, c .before .before .before .before .before .before .before .before .loop .inv .0)
+element-write-htflx : tie.Need-element-write-htflx Inv-loop μ-loop
+element-write-htflx c = omega (arith, c .before .before .before .before .before .before .before .loop .inv .0)
 
-mul-r-4 : tie.Need-mul-r-4 Inv-loop μ-loop
-mul-r-4 c = omega (arith, c .before .before .before .before .before .before .before .before .loop .inv .0)
+mul-gdflx : tie.Need-mul-gdflx Inv-loop μ-loop
+mul-gdflx c = omega (arith, c .before .before .before .before .before .before .before .loop .inv .0)
 
-element-write-r-4 : tie.Need-element-write-r-4 Inv-loop μ-loop
-element-write-r-4 c = omega (arith, c .before .before .before .before .before .before .before .before .loop .inv .0)
+element-write-gdflx : tie.Need-element-write-gdflx Inv-loop μ-loop
+element-write-gdflx c = omega (arith, c .before .before .before .before .before .before .before .loop .inv .0)
 
-mul-r-5 : tie.Need-mul-r-5 Inv-loop μ-loop
-mul-r-5 c = omega (arith, c .before .before .before .before .before .before .before .before .loop .inv .0)
+mul-fvflx : tie.Need-mul-fvflx Inv-loop μ-loop
+mul-fvflx c = omega (arith, c .before .before .before .before .before .before .before .loop .inv .0)
 
-element-write-r-5 : tie.Need-element-write-r-5 Inv-loop μ-loop
-element-write-r-5 c = omega (arith, c .before .before .before .before .before .before .before .before .loop .inv .0)
+element-write-fvflx : tie.Need-element-write-fvflx Inv-loop μ-loop
+element-write-fvflx c = omega (arith, c .before .before .before .before .before .before .before .loop .inv .0)
 
-mul-r-6 : tie.Need-mul-r-6 Inv-loop μ-loop
-mul-r-6 c = omega (arith, c .before .before .before .before .before .before .before .before .loop .inv .0)
+mul-afflx : tie.Need-mul-afflx Inv-loop μ-loop
+mul-afflx c = omega (arith, c .before .before .before .before .before .before .before .loop .inv .0)
 
-element-write-r-6 : tie.Need-element-write-r-6 Inv-loop μ-loop
-element-write-r-6 c = omega (arith, c .before .before .before .before .before .before .before .before .loop .inv .0)
+element-write-afflx : tie.Need-element-write-afflx Inv-loop μ-loop
+element-write-afflx c = omega (arith, c .before .before .before .before .before .before .before .loop .inv .0)
 
-mul-r-7 : tie.Need-mul-r-7 Inv-loop μ-loop
-mul-r-7 c = omega (arith, c .before .before .before .before .before .before .before .before .loop .inv .0)
+mul-imode : tie.Need-mul-imode Inv-loop μ-loop
+mul-imode c = omega (arith, c .before .before .before .before .before .before .before .loop .inv .0)
 
-element-write-r-7 : tie.Need-element-write-r-7 Inv-loop μ-loop
-element-write-r-7 c = omega (arith, c .before .before .before .before .before .before .before .before .loop .inv .0)
+element-write-imode : tie.Need-element-write-imode Inv-loop μ-loop
+element-write-imode c = omega (arith, c .before .before .before .before .before .before .before .loop .inv .0)
 
-add-r : tie.Need-add-r Inv-loop μ-loop
-add-r c = omega (arith, c .before .before .before .before .before .before .before .before .loop .inv .0)
-
-add-r-2 : tie.Need-add-r-2 Inv-loop μ-loop
-add-r-2 c = omega (arith, c .before .before .before .before .before .before .before .before .loop .inv .0)
+add-count : tie.Need-add-count Inv-loop μ-loop
+add-count c = omega (arith, c .before .before .before .before .before .before .before .loop .inv .0)
 
 filled-requires : tie.Need-filled-requires Inv-loop μ-loop
-filled-requires c κs = subst (λ (l : Label). Safe l (c .before .before .before .before .before .before .before .before .loop .w)) (c .before .before .before .before .before .before .label .given .1) (good-safe (c .before .before .before .before .before .before .before .before .loop .inv .0))
+filled-requires c κs = subst (λ (l : Label). Safe l (c .before .before .before .before .before .before .before .loop .w)) (c .before .before .before .before .before .label .given .1) (good-safe (c .before .before .before .before .before .before .before .loop .inv .0))
 
 loop-less-4 : tie.Need-loop-less-4 Inv-loop μ-loop
-loop-less-4 c = steps-fine (c .before .before .before .before .before .before .before .label .given .1) (c .before .before .before .before .before .before .before .before .before .loop .inv .0) (c .filled .ensures) (filled-fine _ _ _) .falls
+loop-less-4 c = steps-fine (c .before .before .before .before .before .before .label .given .1) (c .before .before .before .before .before .before .before .before .loop .inv .0) (c .filled .ensures) (filled-fine _ _ _) .falls
 
 loop-again-4 : tie.Need-loop-again-4 Inv-loop μ-loop
 loop-again-4 c =
-    let f = steps-fine (c .before .before .before .before .before .before .before .label .given .1) (c .before .before .before .before .before .before .before .before .before .loop .inv .0) (c .filled .ensures) (filled-fine _ _ _) in
-    let step = fills _ _ _ (c .before .before .before .before .before .before .before .label .given .1) (c .before .before .before .row-of .ensures) (c .before .before .skip-of .ensures) (c .before .far .ensures) (c .filled .ensures) in
-    (f .good, leads-more (c .before .before .before .before .before .before .before .before .before .loop .inv .1) step (f .falls))
+    let f = steps-fine (c .before .before .before .before .before .before .label .given .1) (c .before .before .before .before .before .before .before .before .loop .inv .0) (c .filled .ensures) (filled-fine _ _ _) in
+    let step = fills _ _ _ (c .before .before .before .before .before .before .label .given .1) (c .before .before .before .row-of .ensures) (c .before .before .skip-of .ensures) (c .before .far .ensures) (c .filled .ensures) in
+    (f .good, leads-more (c .before .before .before .before .before .before .before .before .loop .inv .1) step (f .falls))
 
 enum-told-4 : tie.Need-enum-told-4 Inv-loop μ-loop
 enum-told-4 c = search needs
@@ -171,22 +172,21 @@ walk-rows-spec =
     cast-skip-of
     skip-of-requires
     far-requires
-    mul-r
-    element-write-r
-    mul-r-2
-    element-write-r-2
-    mul-r-3
-    element-write-r-3
-    mul-r-4
-    element-write-r-4
-    mul-r-5
-    element-write-r-5
-    mul-r-6
-    element-write-r-6
-    mul-r-7
-    element-write-r-7
-    add-r
-    add-r-2
+    mul-delfx
+    element-write-delfx
+    mul-hpflx
+    element-write-hpflx
+    mul-htflx
+    element-write-htflx
+    mul-gdflx
+    element-write-gdflx
+    mul-fvflx
+    element-write-fvflx
+    mul-afflx
+    element-write-afflx
+    mul-imode
+    element-write-imode
+    add-count
     filled-requires
     loop-less-4
     loop-again-4

@@ -1,10 +1,9 @@
 -- `angles::arccosine::steps` meets its contract, whatever the guess. Assumes nothing.
 use borrow.Author.Needs.{needs}
-use mathlib.Core.Path.{subst}
 use Prim.Native.Nat.{ℕ, _/_, _%_, _≤_}
 use native.Mathlib.Omega.{arith}
-use Rattle.angles.specs.LeastLaws.{Agrees}
-use Rattle.angles.specs.Arccosine.{acosHigh, acosSteps}
+use Rattle.angles.specs.Short.{exact}
+use Rattle.angles.specs.Arccosine.{acosLow, acosHigh, acosSteps}
 use Rattle.angles.specs.ArccosineLaws.{acos-guessed}
 use Rattle.angles.proofs.arccosine.steps.Statement.{statement}
 use Rattle.angles.proofs.arccosine.steps.Tie as tie
@@ -34,10 +33,10 @@ returns : tie.Need-returns
 returns c =
     let a = c .before .before .before .before .args in
     let q = c .before .before .slack in
-    let s = c .before .before .before .cosine-sides in
-    let g = c .before .agrees .ensures (c .if1 .taken) in
-    acos-guessed (a .neg) (a .t) (q .result) (a .h / 256) (a .h / 128 % 2) (bit (a .h)) (q .ensures .1 (a .t))
-    (subst (λ (l : ℕ). Agrees l (acosHigh (a .neg) (a .t) (a .h / 256)) (q .result) (a .h / 128 % 2)) (s .ensures .0 .0) (subst (λ (l : ℕ). Agrees (s .result .low) l (q .result) (a .h / 128 % 2)) (s .ensures .0 .1) g))
+    let j = a .h / 256 in
+    let s = c .before .before .before .cosine-sides .ensures .0 in
+    let g = c .before .agrees .ensures (c .if1 .taken) (acosLow (a .neg) (a .t) j) (acosHigh (a .neg) (a .t) j) (exact (s .0)) (exact (s .1)) in
+    acos-guessed (a .neg) (a .t) (q .result) j (a .h / 128 % 2) (bit (a .h)) (q .ensures .1 (a .t)) g
   where
     bit : (h : ℕ) → h / 128 % 2 ≤ 1
     bit h = omega arith

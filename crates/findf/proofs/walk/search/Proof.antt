@@ -1,6 +1,6 @@
 use borrow.Author.Needs.{needs}
 use borrow.Author.Tests.{lt-leb, le-leb}
-use Rattle.findf.specs.Walk.{searchOf, searchBy}
+use Rattle.findf.specs.Walk.{angOf, searchOf, searchBy}
 use Rattle.findf.proofs.walk.search.Statement.{statement}
 use Rattle.findf.proofs.walk.search.Tie as tie
 
@@ -34,15 +34,18 @@ returns-3 : tie.Need-returns-3
 unfolding searchOf searchBy
 returns-3 c = simp (c .before .before .before .if1 .left, c .before .before .if2 .left, le-leb _ _ (c .before .if3 .taken), ← c .with-label3 .ensures)
 
-ang-requires : tie.Need-ang-requires
-ang-requires c κs = search needs
+mul-if4 : tie.Need-mul-if4
+mul-if4 c = search needs
 
-add-t23 : tie.Need-add-t23
-add-t23 c = search needs
+element-copy-out-if4 : tie.Need-element-copy-out-if4
+element-copy-out-if4 c = search needs
+
+add-t26 : tie.Need-add-t26
+add-t26 c = search needs
 
 returns-4 : tie.Need-returns-4
-unfolding searchOf searchBy
-returns-4 c = simp (c .before .before .before .before .if1 .left, c .before .before .before .if2 .left, lt-leb _ _ (c .before .before .if3 .left), ← c .before .ang .ensures, c .if4 .taken)
+unfolding searchOf searchBy angOf
+returns-4 c = simp (c .before .before .before .before .if1 .left, c .before .before .before .if2 .left, lt-leb _ _ (c .before .before .if3 .left), ← c .before .before .before .before .before .before .pre .0, c .if4 .taken)
 
 mul-looks : tie.Need-mul-looks
 mul-looks c = search needs
@@ -54,8 +57,8 @@ add-t12 : tie.Need-add-t12
 add-t12 c = search needs
 
 returns-5 : tie.Need-returns-5
-unfolding searchOf searchBy
-returns-5 c = simp (c .before .before .before .before .before .if1 .left, c .before .before .before .before .if2 .left, lt-leb _ _ (c .before .before .before .if3 .left), ← c .before .before .ang .ensures, c .before .if4 .left, ← c .looks .ensures)
+unfolding searchOf searchBy angOf
+returns-5 c = simp (c .before .before .before .before .before .if1 .left, c .before .before .before .before .if2 .left, lt-leb _ _ (c .before .before .before .if3 .left), ← c .before .before .before .before .before .before .before .pre .0, c .before .if4 .left, ← c .looks .ensures)
 
 pub search-spec : {M : Type 1} → statement M
 search-spec =
@@ -70,8 +73,9 @@ search-spec =
     returns-2
     with-label-requires-3
     returns-3
-    ang-requires
-    add-t23
+    mul-if4
+    element-copy-out-if4
+    add-t26
     returns-4
     mul-looks
     looks-requires

@@ -1,0 +1,38 @@
+use mathlib.Core.Path.{sym, _∙_}
+use borrow.Author.Needs.{needs}
+use Rattle.findf.specs.Findf.{admissionOf, findfOf}
+use Rattle.findf.proofs.Accepted.{refuses, unrefused, walks, fit}
+use Rattle.findf.proofs.findf_into.Statement.{statement}
+use Rattle.findf.proofs.findf_into.Tie as tie
+
+admission-of-requires : tie.Need-admission-of-requires
+admission-of-requires c κs = search needs
+
+enum-known-admission : tie.Need-enum-known-admission
+enum-known-admission c = search needs
+
+enum-known-admission-2 : tie.Need-enum-known-admission-2
+enum-known-admission-2 c = search needs
+
+started-requires : tie.Need-started-requires
+unfolding admissionOf
+started-requires c κs = fit _ _ _ _ _ _ _ _ _ _ (unrefused _ _ _ (sym (c .before .before .before .before .before .before .before .before .admission2 .given .1) ∙ c .before .before .before .before .before .before .before .before .before .before .admission-of .ensures))
+
+returns : tie.Need-returns
+unfolding admissionOf findfOf
+returns c = refuses _ _ _ _ _ (sym (c .before .admission .given .1) ∙ c .before .before .before .admission-of .ensures)
+
+returns-2 : tie.Need-returns-2
+unfolding admissionOf findfOf
+returns-2 c = c .started .ensures ∙ walks _ _ _ _ _ _ _ _ _ _ _ _ (sym (c .before .before .before .before .before .before .before .before .before .admission2 .given .1) ∙ c .before .before .before .before .before .before .before .before .before .before .before .admission-of .ensures)
+
+pub findf-into-spec : {M : Type 1} → statement M
+findf-into-spec =
+    tie.close
+    (tie.spec
+    admission-of-requires
+    enum-known-admission
+    enum-known-admission-2
+    started-requires
+    returns
+    returns-2)
