@@ -14,8 +14,9 @@ use Rattle.limits.specs.Limits.{broken, kWithin, freqWithin, ifobWithin}
 use Rattle.limits.specs.LimitsLaws.{both}
 use Rattle.findf.specs.Look.{Entry, Entries}
 use Rattle.findf.specs.Checks.{entriesWithin}
-use Rattle.findf.specs.Findf.{startedOf, limitsOf, admissionBy, refusedOf, unlessRefused}
+use Rattle.findf.specs.Findf.{startedOf, limitsOf, admissionBy, numberOf, refusedOf, unlessRefused}
 use Rattle.findf.specs.FindfLaws.{unbroken}
+use Rattle.findf.specs.declared.checks.Admission.{Admission}
 use Rattle.findf.specs.declared.checks.Admission.the-variants.{Granted, Refused}
 use Rattle.findf.specs.declared.Reflectrix.{Reflectrix}
 use Rattle.findf.specs.declared.Walked.{Walked}
@@ -37,11 +38,11 @@ module _ (second third : Float) where
   refused-by zero h = absurd (h refl)
   refused-by (suc n) h = refl
 
-  -- a refusal is the answer
-  pub refuses : (n : ℕ) {m : ℕ} (r : Reflectrix) (a : Walked) → Refused m ≡ admissionBy n second third → refusedOf m r ≡ unlessRefused n r a
+  -- a refusal is the answer, by its number
+  pub refuses : (n : ℕ) {a : Admission} {m q : ℕ} (r : Reflectrix) (w : Walked) → q ≡ numberOf a → a ≡ Refused m → a ≡ admissionBy n second third → refusedOf q r ≡ unlessRefused n r w
   unfolding admissionBy unlessRefused
-  refuses zero r a e = let z : _≡_ {A = ℕ} 0 1 = cc in absurd (omega arith)
-  refuses (suc n) r a e = cc
+  refuses zero r w e k b = let z : _≡_ {A = ℕ} 0 1 = cc in absurd (omega arith)
+  refuses (suc n) r w e k b = rw (e, b)
 
   -- where the job is granted, no limit is broken
   pub unrefused : (n : ℕ) {fi1 fi2 : Float} → Granted fi1 fi2 ≡ admissionBy n second third → n ≡ 0

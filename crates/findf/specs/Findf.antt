@@ -159,6 +159,10 @@ unfoldable pub admissionBy : ℕ → Float → Float → Admission
 admissionBy zero second third = Granted second third
 admissionBy (suc n) second third = Refused (suc n)
 
+abbrev pub numberOf : Admission → ℕ
+numberOf (Granted second third) = 0
+numberOf (Refused n) = n
+
 unfoldable pub admissionOf : ℕ → ℕ → Float → Float → List (List Float) → List Float → List Float → List Float → List Float → List ℤ → Admission
 admissionOf k nang freq amind fi fvert hprim htrue afac ifob =
     let point = getD fi k [] in

@@ -4,7 +4,7 @@ ghost use mathlib.Core.Bool.{true, cond};
 ghost use Prim.Native.Nat.{ℕ};
 ghost use Rattle.limits.specs.Limits.{kWithin, broken};
 ghost use Rattle.findf.specs.Checks.{rowWithin, rowsWithin, entriesWithin};
-ghost use Rattle.findf.specs.Findf.{limitsOf, admissionOf};
+ghost use Rattle.findf.specs.Findf.{limitsOf, admissionOf, numberOf};
 
 // The second and the third number of the job's point, or the number of the first broken limit.
 pub(crate) enum Admission {
@@ -116,5 +116,15 @@ pub(crate) fn admission_of(
         }
     } else {
         Admission::Refused(limits::REFUSAL_K)
+    }
+}
+
+// 0 where the job is granted.
+pub(crate) fn number(a: Admission) -> u32
+    ensures { λ r. ⌜ r ≡ numberOf a ⌝ }
+{
+    match a {
+        Admission::Granted(_, _) => 0,
+        Admission::Refused(n) => n,
     }
 }

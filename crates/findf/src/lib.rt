@@ -290,33 +290,33 @@ pub fn findf_into(
         afac,
         ifob,
     );
-    match admission {
-        Admission::Refused(refusal) => Outcome {
-            refusal: refusal,
+    let Admission::Granted(fi1, fi2) = admission else {
+        return Outcome {
+            refusal: checks::number(admission),
             looks: 0,
             figures: figures,
-        },
-        Admission::Granted(fi1, fi2) => started(
-            delfx,
-            hpflx,
-            htflx,
-            gdflx,
-            fvflx,
-            afflx,
-            imode,
-            figures,
-            nang,
-            freq,
-            amind,
-            fi1,
-            fi2,
-            fvert,
-            hprim,
-            htrue,
-            afac,
-            ifob,
-        ),
-    }
+        };
+    };
+    started(
+        delfx,
+        hpflx,
+        htflx,
+        gdflx,
+        fvflx,
+        afflx,
+        imode,
+        figures,
+        nang,
+        freq,
+        amind,
+        fi1,
+        fi2,
+        fvert,
+        hprim,
+        htrue,
+        afac,
+        ifob,
+    )
 }
 
 // By value: the same over its own copies of the columns.

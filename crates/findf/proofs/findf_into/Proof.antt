@@ -11,20 +11,23 @@ admission-of-requires c κs = search needs
 enum-known-admission : tie.Need-enum-known-admission
 enum-known-admission c = search needs
 
-enum-known-admission-2 : tie.Need-enum-known-admission-2
-enum-known-admission-2 c = search needs
+enum-told : tie.Need-enum-told
+enum-told c = search needs
 
-started-requires : tie.Need-started-requires
-unfolding admissionOf
-started-requires c κs = fit _ _ _ _ _ _ _ _ _ _ (unrefused _ _ _ (sym (c .before .before .before .before .before .before .before .before .admission2 .given .1) ∙ c .before .before .before .before .before .before .before .before .before .before .admission-of .ensures))
+number-requires : tie.Need-number-requires
+number-requires c κs = search needs
 
 returns : tie.Need-returns
 unfolding admissionOf findfOf
-returns c = refuses _ _ _ _ _ (sym (c .before .admission .given .1) ∙ c .before .before .before .admission-of .ensures)
+returns c = refuses _ _ _ _ _ (c .number .ensures) (c .before .enum-told .given .1) (c .before .before .before .admission-of .ensures)
+
+started-requires : tie.Need-started-requires
+unfolding admissionOf
+started-requires c κs = fit _ _ _ _ _ _ _ _ _ _ (unrefused _ _ _ (sym (c .before .before .before .before .before .before .before .before .admission .given .1) ∙ c .before .before .before .before .before .before .before .before .before .before .admission-of .ensures))
 
 returns-2 : tie.Need-returns-2
 unfolding admissionOf findfOf
-returns-2 c = c .started .ensures ∙ walks _ _ _ _ _ _ _ _ _ _ _ _ (sym (c .before .before .before .before .before .before .before .before .before .admission2 .given .1) ∙ c .before .before .before .before .before .before .before .before .before .before .before .admission-of .ensures)
+returns-2 c = c .started .ensures ∙ walks _ _ _ _ _ _ _ _ _ _ _ _ (sym (c .before .before .before .before .before .before .before .before .before .admission .given .1) ∙ c .before .before .before .before .before .before .before .before .before .before .before .admission-of .ensures)
 
 pub findf-into-spec : {M : Type 1} → statement M
 findf-into-spec =
@@ -32,7 +35,8 @@ findf-into-spec =
     (tie.spec
     admission-of-requires
     enum-known-admission
-    enum-known-admission-2
-    started-requires
+    enum-told
+    number-requires
     returns
+    started-requires
     returns-2)
