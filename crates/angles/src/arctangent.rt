@@ -73,7 +73,9 @@ fn guess(x: f32) -> u32
 {
     let w = magnitude(x);
     if w > 1.0 {
-        in_256ths(6588397.31666114207 - small_arc(1.0 / w))
+        // Past 2^23 the recipe's argument is 2^23.
+        let c = if w < 8388608.0 { w } else { 8388608.0 };
+        in_256ths(6588397.31666114207 - small_arc(1.0 / c))
     } else {
         in_256ths(small_arc(w))
     }

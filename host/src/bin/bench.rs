@@ -57,6 +57,9 @@ fn main() {
     for f in &FUNCTIONS {
         compare(f.name, f.ours, f.rust, [-f.spread(), f.spread()]);
     }
+    let mut prng = Prng::new(1);
+    let inputs: Vec<f32> = (0..INPUTS).map(|_| prng.float()).collect();
+    print("atan of any size", apart(&inputs, |x| entries::atan(x)), apart(&inputs, f32::atan));
     #[cfg(oracle)]
     {
         beside_the_rust();
