@@ -27,7 +27,7 @@ fn directory(variable: &str, default: &str) -> PathBuf {
 fn link_libraries() {
     let directory = directory("RAY_LIB_DIR", "../target/staticlib");
     println!("cargo:rustc-link-search=native={}", directory.display());
-    for name in ["raycore", "test_entries"] {
+    for name in ["raycore", "test_entries", "findf_entry"] {
         let library = directory.join(format!("lib{name}.a"));
         assert!(
             library.is_file(),

@@ -3,7 +3,7 @@
 mod jobs;
 pub use jobs::*;
 
-use crate::entries::{self, Figures, FindfJob, Reflectrix, Walked};
+use crate::entries::{self, Figures, FindfJob, Outcome, Reflectrix, Walked};
 use crate::floats;
 use crate::guarded::Guarded;
 use crate::limits;
@@ -73,25 +73,23 @@ pub fn ours(rfx: Reflectrix, job: &FindfJob) -> Walked {
     entries::findf(rfx, *k, *nang, *freq, *amind, fi, fvert, hprim, htrue, afac, ifob)
 }
 
-/// The library's findf into the columns of a record, whose figures are set by the answer: the
-/// refusal's number and the looks.
-pub fn in_place(rfx: &mut Reflectrix, job: &FindfJob) -> (u32, u32) {
-    let figures = Figures::from(&*rfx);
+/// The library's findf into the columns of a record; the figures go in and come back by value.
+pub fn into_columns(rfx: &mut Reflectrix, figures: Figures, job: &FindfJob) -> Outcome {
     let FindfJob { k, nang, freq, amind, fi, fvert, hprim, htrue, afac, ifob } = job;
     let Reflectrix { delfx, hpflx, htflx, gdflx, fvflx, afflx, imode, .. } = rfx;
-    let outcome = entries::findf_into(
+    entries::findf_into(
         delfx, hpflx, htflx, gdflx, fvflx, afflx, imode, figures, *k, *nang, *freq, *amind, fi,
         fvert, hprim, htrue, afac, ifob,
-    );
-    rfx.set_figures(outcome.figures);
-    (outcome.refusal, outcome.looks)
+    )
 }
 
-/// The same, where the record stands between words that no call may touch.
+/// The same as by value, where the record stands between words that no call may touch.
 fn ours_in_place(rfx: Reflectrix, job: &FindfJob) -> Walked {
     let mut lent = Guarded::new(rfx);
-    let (refusal, looks) = in_place(&mut lent.lent, job);
+    let Outcome { refusal, looks, figures } =
+        into_columns(&mut lent.lent, Figures::from(&rfx), job);
     assert!(lent.is_intact());
+    lent.lent.set_figures(figures);
     Walked { refusal, looks, rfx: lent.lent }
 }
 

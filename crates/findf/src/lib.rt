@@ -137,7 +137,7 @@ fn walk_rows(
             Label::Fill(fill) => {
                 let i = w.rows;
                 let il = w.il;
-                let t = rows::row_of(
+                let q = rows::filling_of(
                     ang,
                     fvert,
                     hprim,
@@ -147,12 +147,13 @@ fn walk_rows(
                     delpen,
                     &*delfx,
                     fi1,
-                    fc2,
-                    freq,
                     jfhz,
                     fill,
                     w,
                 );
+                let raw = q.raw;
+                let after = q.after;
+                let t = rows::row_of(raw, q.mode, freq, fc2, fill, w.ia);
                 let s = rows::skip_of(
                     Skip {
                         dskpkm: f.dskpkm,
@@ -183,7 +184,7 @@ fn walk_rows(
                 let count = i + 1;
                 f.iaftxr = count;
                 f.rows_this_call = count;
-                w = walk::filled(fill, w);
+                w = walk::filled(fill, q.back, after, w);
             }
             Label::Done => {
                 return Outcome {

@@ -3,8 +3,8 @@
 ghost use mathlib.Core.Path.{_≡_};
 ghost use Prim.Native.Nat.{_+_, _-_, _*_, _≤_, _<_};
 ghost use Rattle.findf.specs.Look.{Entries};
-ghost use Rattle.findf.specs.Walk.{angles};
-ghost use Rattle.findf.specs.Rows.{gapOf, slopeOf, rawAt, rawBetween, nextModeOf, modeOf, rawOf, rcosdOf, correctedOf, rowOf, skipOf, farOf};
+ghost use Rattle.findf.specs.Walk.{angles, backOf, afterOf};
+ghost use Rattle.findf.specs.Rows.{gapOf, slopeOf, rawAt, rawBetween, nextModeOf, modeOf, rawOf, rcosdOf, correctedOf, rowFrom, skipOf, farOf};
 ghost use Rattle.findf.specs.Safe.{Safe};
 use super::look;
 use super::walk::Fill;
@@ -20,6 +20,14 @@ pub(crate) struct Raw {
     pub fv: f32,
     pub hp: f32,
     pub af: f32,
+}
+
+// A fill: its row before the correction, the row's layer, and how the walk goes on, with the angles given back.
+pub(crate) struct Filling {
+    pub raw: Raw,
+    pub mode: u32,
+    pub back: usize,
+    pub after: Label,
 }
 
 pub(crate) struct Corrected {
@@ -107,19 +115,7 @@ fn raw_between(
     }
 }
 
-// The layer that the row is of; after a cusp, the next one.
-fn mode(fill: Fill, il: u32, fi1: f32) -> u32
-    requires { ⌜ il ≤ 3 ⌝ }
-    ensures { λ r. ⌜ r ≡ modeOf fill il fi1 ⌝ }
-{
-    match fill {
-        Fill::Exact => il,
-        Fill::Interp => il,
-        Fill::Cusp => il,
-        Fill::NextCusp360 => next_mode(il, fi1),
-    }
-}
-
+// The layer after a cusp.
 fn next_mode(il: u32, fi1: f32) -> u32
     requires { ⌜ il ≤ 3 ⌝ }
     ensures { λ r. ⌜ r ≡ nextModeOf il fi1 ⌝ }
@@ -127,7 +123,8 @@ fn next_mode(il: u32, fi1: f32) -> u32
     if fi1 <= 0.0 { 3 } else { il + 1 }
 }
 
-fn raw_of(
+// One match for all that a fill's kind decides: apart, each would be worked out at every turn of the walk.
+pub(crate) fn filling_of(
     ang: &[f32; 40],
     fvert: &[f32; 30],
     hprim: &[f32; 30],
@@ -136,12 +133,14 @@ fn raw_of(
     ifob: &[i32; 1200],
     delpen: &[f32; 3],
     delfx: &[f32; 45],
+    fi1: f32,
     jfhz: u32,
     fill: Fill,
     w: Walk,
-) -> Raw
+) -> Filling
     requires { ⌜ (now ang ≡ angles) × (Entries (now ifob) × ((jfhz ≤ 99999) × Safe (Label.Fill fill) w)) ⌝ }
-    ensures { λ r. ⌜ r ≡ rawOf (now (fvert .entry)) (now (hprim .entry)) (now (htrue .entry)) (now (afac .entry)) (now (ifob .entry)) (now (delpen .entry)) (now (delfx .entry)) jfhz fill w ⌝ }
+    ensures { λ r. ⌜ (r .raw ≡ rawOf (now (fvert .entry)) (now (hprim .entry)) (now (htrue .entry)) (now (afac .entry)) (now (ifob .entry)) (now (delpen .entry)) (now (delfx .entry)) jfhz fill w)
+        × ((r .mode ≡ modeOf fill (w .il) fi1) × ((r .back ≡ backOf fill) × (r .after ≡ afterOf fill))) ⌝ }
 {
     let ia = w.ia;
     let ih = w.ih;
@@ -149,14 +148,44 @@ fn raw_of(
     let ihigh = w.ihigh;
     let i = w.rows;
     match fill {
-        Fill::Exact => raw_at(fvert, hprim, htrue, afac, ih - 1, ang[ia - 1]),
+        Fill::Exact => {
+            let raw = raw_at(fvert, hprim, htrue, afac, ih - 1, ang[ia - 1]);
+            Filling {
+                raw: raw,
+                mode: il as u32,
+                back: 0,
+                after: Label::Search,
+            }
+        }
         Fill::Interp => {
             let at = (ia - 1) * 30 + ih;
             let s = slope(look::entry(ifob, at - 1), look::entry(ifob, at), jfhz);
-            raw_between(fvert, hprim, htrue, afac, ih - 1, ang[ia - 1], s)
+            let raw = raw_between(fvert, hprim, htrue, afac, ih - 1, ang[ia - 1], s);
+            Filling {
+                raw: raw,
+                mode: il as u32,
+                back: 0,
+                after: Label::Search,
+            }
         }
-        Fill::Cusp => raw_at(fvert, hprim, htrue, afac, ihigh - 1, delpen[il - 1]),
-        Fill::NextCusp360 => raw_at(fvert, hprim, htrue, afac, ihigh, delfx[i - 1] + 0.001),
+        Fill::Cusp => {
+            let raw = raw_at(fvert, hprim, htrue, afac, ihigh - 1, delpen[il - 1]);
+            Filling {
+                raw: raw,
+                mode: il as u32,
+                back: 1,
+                after: Label::NextCusp,
+            }
+        }
+        Fill::NextCusp360 => {
+            let raw = raw_at(fvert, hprim, htrue, afac, ihigh, delfx[i - 1] + 0.001);
+            Filling {
+                raw: raw,
+                mode: next_mode(il as u32, fi1),
+                back: 0,
+                after: Label::NextLayer,
+            }
+        }
     }
 }
 
@@ -181,42 +210,12 @@ fn martyn(freq: f32, fc2: f32, del: f32, rcosd: f32, ht: f32, fv: f32, hp: f32) 
     Corrected { hp: high, gdr: gdr }
 }
 
-pub(crate) fn row_of(
-    ang: &[f32; 40],
-    fvert: &[f32; 30],
-    hprim: &[f32; 30],
-    htrue: &[f32; 30],
-    afac: &[f32; 30],
-    ifob: &[i32; 1200],
-    delpen: &[f32; 3],
-    delfx: &[f32; 45],
-    fi1: f32,
-    fc2: f32,
-    freq: f32,
-    jfhz: u32,
-    fill: Fill,
-    w: Walk,
-) -> Row
-    requires { ⌜ (now ang ≡ angles) × (Entries (now ifob) × ((jfhz ≤ 99999) × Safe (Label.Fill fill) w)) ⌝ }
-    ensures { λ r. ⌜ r ≡ rowOf (now (fvert .entry)) (now (hprim .entry)) (now (htrue .entry)) (now (afac .entry)) (now (ifob .entry)) (now (delpen .entry)) (now (delfx .entry)) fi1 fc2 freq jfhz fill w ⌝ }
+// The row with its correction.
+pub(crate) fn row_of(a: Raw, mode: u32, freq: f32, fc2: f32, fill: Fill, ia: usize) -> Row
+    ensures { λ r. ⌜ r ≡ rowFrom freq fc2 fill ia mode a ⌝ }
 {
-    let a = raw_of(
-        ang,
-        fvert,
-        hprim,
-        htrue,
-        afac,
-        ifob,
-        delpen,
-        delfx,
-        jfhz,
-        fill,
-        w,
-    );
     let del = a.del * D2R;
-    let m = martyn(freq, fc2, del, rcosd(fill, w.ia, del), a.ht, a.fv, a.hp);
-    let il = w.il;
-    let mode = mode(fill, il as u32, fi1);
+    let m = martyn(freq, fc2, del, rcosd(fill, ia, del), a.ht, a.fv, a.hp);
     Row {
         del: a.del,
         hp: m.hp,

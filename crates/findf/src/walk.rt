@@ -200,36 +200,11 @@ pub(crate) fn next_cusp(delpen: &[f32; 3], w: Walk) -> Walk
     with_label(w, Label::Fill(Fill::NextCusp360))
 }
 
-// Where the walk goes on once the row is written.
-fn after(fill: Fill) -> Label
-    ensures { λ r. ⌜ r ≡ afterOf fill ⌝ }
-{
-    match fill {
-        Fill::Exact => Label::Search,
-        Fill::Interp => Label::Search,
-        Fill::Cusp => Label::NextCusp,
-        Fill::NextCusp360 => Label::NextLayer,
-    }
-}
-
-// The angles that a row gives back.
-fn back(fill: Fill) -> usize
-    ensures { λ r. ⌜ r ≡ backOf fill ⌝ }
-{
-    match fill {
-        Fill::Exact => 0,
-        Fill::Interp => 0,
-        Fill::Cusp => 1,
-        Fill::NextCusp360 => 0,
-    }
-}
-
-// The state once the row is written.
-pub(crate) fn filled(fill: Fill, w: Walk) -> Walk
-    requires { ⌜ Safe (Label.Fill fill) w ⌝ }
+// The state once the row is written: b angles are given back, and the walk goes on at l.
+pub(crate) fn filled(fill: Fill, b: usize, l: Label, w: Walk) -> Walk
+    requires { ⌜ ((b ≡ backOf fill) × (l ≡ afterOf fill)) × Safe (Label.Fill fill) w ⌝ }
     ensures { λ r. ⌜ r ≡ filledOf fill w ⌝ }
 {
-    let b = back(fill);
     let n = w.rows + 1;
     if n >= 45 {
         return Walk {
@@ -243,7 +218,6 @@ pub(crate) fn filled(fill: Fill, w: Walk) -> Walk
             looks: w.looks,
         };
     }
-    let l = after(fill);
     Walk {
         label: l,
         ia: w.ia - b,

@@ -4,7 +4,7 @@ ghost use Rattle.root.specs.Root.{sqrtOf};
 ghost use Rattle.fnorml.specs.Fnorml.{fnormlOf};
 ghost use Rattle.sigdis.specs.Prbmuf.{prbmufOf, refusalOf, leftOf};
 ghost use Rattle.allmodes.specs.AllModes.{resetOf, accumulateOf};
-ghost use Rattle.findf.specs.Findf.{reflectrixFrom, walkedFrom, findfOf};
+ghost use Rattle.findf.specs.Findf.{findfOf};
 ghost use Rattle.fdist.specs.Fdist.{fdistOf};
 ghost use Rattle.test_entries.specs.Entries.{hourOf};
 use allmodes::Accumulated;
@@ -12,8 +12,6 @@ use allmodes::AllModes;
 use allmodes::Zon;
 use fdist::HopModes;
 use fdist::Searched;
-use findf::Figures;
-use findf::Outcome;
 use findf::Reflectrix;
 use findf::Walked;
 use sigdis::LayerMuf;
@@ -120,52 +118,6 @@ pub extern "C" fn ray_findf(
         *htrue,
         *afac,
         *ifob,
-    )
-}
-
-#[no_mangle]
-pub extern "C" fn ray_findf_into(
-    delfx: &mut [f32; 45],
-    hpflx: &mut [f32; 45],
-    htflx: &mut [f32; 45],
-    gdflx: &mut [f32; 45],
-    fvflx: &mut [f32; 45],
-    afflx: &mut [f32; 45],
-    imode: &mut [u32; 45],
-    figures: Figures,
-    k: usize,
-    nang: usize,
-    freq: f32,
-    amind: f32,
-    fi: &[[f32; 3]; 5],
-    fvert: &[f32; 30],
-    hprim: &[f32; 30],
-    htrue: &[f32; 30],
-    afac: &[f32; 30],
-    ifob: &[i32; 1200],
-) -> Outcome
-    ensures { λ r. ⌜ walkedFrom (now (delfx .exit)) (now (hpflx .exit)) (now (htflx .exit)) (now (gdflx .exit)) (now (fvflx .exit)) (now (afflx .exit)) (now (imode .exit)) r
-        ≡ findfOf (reflectrixFrom (now (delfx .entry)) (now (hpflx .entry)) (now (htflx .entry)) (now (gdflx .entry)) (now (fvflx .entry)) (now (afflx .entry)) (now (imode .entry)) figures) k nang freq amind (now (fi .entry)) (now (fvert .entry)) (now (hprim .entry)) (now (htrue .entry)) (now (afac .entry)) (now (ifob .entry)) ⌝ }
-{
-    findf::findf_into(
-        delfx,
-        hpflx,
-        htflx,
-        gdflx,
-        fvflx,
-        afflx,
-        imode,
-        figures,
-        k,
-        nang,
-        freq,
-        amind,
-        *fi,
-        fvert,
-        hprim,
-        htrue,
-        afac,
-        ifob,
     )
 }
 

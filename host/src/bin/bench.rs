@@ -73,7 +73,7 @@ fn main() {
 /// library's angle functions and no more of it.
 #[cfg(oracle)]
 fn walks_and_searches() {
-    use host::entries::{FdistJob, FindfJob, HopModes, Reflectrix};
+    use host::entries::{FdistJob, Figures, FindfJob, HopModes, Reflectrix};
     use host::oracle::{self, as_it_comes, led, AreaTables, IonoState};
     use host::{fdist, findf};
 
@@ -86,8 +86,10 @@ fn walks_and_searches() {
     let rfx = Reflectrix::random(&mut prng);
     let mut ours_rfx = rfx;
     let by_value = time(|i| ours_rfx = findf::ours(ours_rfx, black_box(&jobs[i % JOBS])).rfx);
+    let mut figures = Figures::from(&rfx);
     let in_place = time(|i| {
-        findf::in_place(black_box(&mut ours_rfx), black_box(&jobs[i % JOBS]));
+        let columns = black_box(&mut ours_rfx);
+        figures = findf::into_columns(columns, figures, black_box(&jobs[i % JOBS])).figures;
     });
     let mut rust_rfx = oracle::Reflectrix::from(rfx);
     let mut rust = |findf: findf::RustFindf| {

@@ -71,12 +71,15 @@ loop-again-3 c =
 enum-known-label : tie.Need-enum-known-label Inv-loop μ-loop
 enum-known-label c = search needs
 
-row-of-requires : tie.Need-row-of-requires Inv-loop μ-loop
+filling-of-requires : tie.Need-filling-of-requires Inv-loop μ-loop
 unfolding angles
-row-of-requires c κs = (refl, (c .before .before .before .before .before .before .pre .0, (c .before .before .before .before .before .before .pre .1 .1, subst (λ (l : Label). Safe l (c .before .before .before .before .loop .w)) (c .before .before .label .given .1) (good-safe (c .before .before .before .before .loop .inv .0)))))
+filling-of-requires c κs = (refl, (c .before .before .before .before .before .before .pre .0, (c .before .before .before .before .before .before .pre .1 .1, subst (λ (l : Label). Safe l (c .before .before .before .before .loop .w)) (c .before .before .label .given .1) (good-safe (c .before .before .before .before .loop .inv .0)))))
+
+row-of-requires : tie.Need-row-of-requires Inv-loop μ-loop
+row-of-requires c κs = search needs
 
 cast-skip-of : tie.Need-cast-skip-of Inv-loop μ-loop
-cast-skip-of c = omega (arith, c .before .before .before .before .before .loop .inv .0)
+cast-skip-of c = omega (arith, c .before .before .before .before .before .before .before .loop .inv .0)
 
 skip-of-requires : tie.Need-skip-of-requires Inv-loop μ-loop
 skip-of-requires c κs = search needs
@@ -85,61 +88,61 @@ far-requires : tie.Need-far-requires Inv-loop μ-loop
 far-requires c κs = search needs
 
 mul-delfx : tie.Need-mul-delfx Inv-loop μ-loop
-mul-delfx c = omega (arith, c .before .before .before .before .before .before .before .loop .inv .0)
+mul-delfx c = omega (arith, c .before .before .before .before .before .before .before .before .before .loop .inv .0)
 
 element-write-delfx : tie.Need-element-write-delfx Inv-loop μ-loop
-element-write-delfx c = omega (arith, c .before .before .before .before .before .before .before .loop .inv .0)
+element-write-delfx c = omega (arith, c .before .before .before .before .before .before .before .before .before .loop .inv .0)
 
 mul-hpflx : tie.Need-mul-hpflx Inv-loop μ-loop
-mul-hpflx c = omega (arith, c .before .before .before .before .before .before .before .loop .inv .0)
+mul-hpflx c = omega (arith, c .before .before .before .before .before .before .before .before .before .loop .inv .0)
 
 element-write-hpflx : tie.Need-element-write-hpflx Inv-loop μ-loop
-element-write-hpflx c = omega (arith, c .before .before .before .before .before .before .before .loop .inv .0)
+element-write-hpflx c = omega (arith, c .before .before .before .before .before .before .before .before .before .loop .inv .0)
 
 mul-htflx : tie.Need-mul-htflx Inv-loop μ-loop
-mul-htflx c = omega (arith, c .before .before .before .before .before .before .before .loop .inv .0)
+mul-htflx c = omega (arith, c .before .before .before .before .before .before .before .before .before .loop .inv .0)
 
 element-write-htflx : tie.Need-element-write-htflx Inv-loop μ-loop
-element-write-htflx c = omega (arith, c .before .before .before .before .before .before .before .loop .inv .0)
+element-write-htflx c = omega (arith, c .before .before .before .before .before .before .before .before .before .loop .inv .0)
 
 mul-gdflx : tie.Need-mul-gdflx Inv-loop μ-loop
-mul-gdflx c = omega (arith, c .before .before .before .before .before .before .before .loop .inv .0)
+mul-gdflx c = omega (arith, c .before .before .before .before .before .before .before .before .before .loop .inv .0)
 
 element-write-gdflx : tie.Need-element-write-gdflx Inv-loop μ-loop
-element-write-gdflx c = omega (arith, c .before .before .before .before .before .before .before .loop .inv .0)
+element-write-gdflx c = omega (arith, c .before .before .before .before .before .before .before .before .before .loop .inv .0)
 
 mul-fvflx : tie.Need-mul-fvflx Inv-loop μ-loop
-mul-fvflx c = omega (arith, c .before .before .before .before .before .before .before .loop .inv .0)
+mul-fvflx c = omega (arith, c .before .before .before .before .before .before .before .before .before .loop .inv .0)
 
 element-write-fvflx : tie.Need-element-write-fvflx Inv-loop μ-loop
-element-write-fvflx c = omega (arith, c .before .before .before .before .before .before .before .loop .inv .0)
+element-write-fvflx c = omega (arith, c .before .before .before .before .before .before .before .before .before .loop .inv .0)
 
 mul-afflx : tie.Need-mul-afflx Inv-loop μ-loop
-mul-afflx c = omega (arith, c .before .before .before .before .before .before .before .loop .inv .0)
+mul-afflx c = omega (arith, c .before .before .before .before .before .before .before .before .before .loop .inv .0)
 
 element-write-afflx : tie.Need-element-write-afflx Inv-loop μ-loop
-element-write-afflx c = omega (arith, c .before .before .before .before .before .before .before .loop .inv .0)
+element-write-afflx c = omega (arith, c .before .before .before .before .before .before .before .before .before .loop .inv .0)
 
 mul-imode : tie.Need-mul-imode Inv-loop μ-loop
-mul-imode c = omega (arith, c .before .before .before .before .before .before .before .loop .inv .0)
+mul-imode c = omega (arith, c .before .before .before .before .before .before .before .before .before .loop .inv .0)
 
 element-write-imode : tie.Need-element-write-imode Inv-loop μ-loop
-element-write-imode c = omega (arith, c .before .before .before .before .before .before .before .loop .inv .0)
+element-write-imode c = omega (arith, c .before .before .before .before .before .before .before .before .before .loop .inv .0)
 
 add-count : tie.Need-add-count Inv-loop μ-loop
-add-count c = omega (arith, c .before .before .before .before .before .before .before .loop .inv .0)
+add-count c = omega (arith, c .before .before .before .before .before .before .before .before .before .loop .inv .0)
 
 filled-requires : tie.Need-filled-requires Inv-loop μ-loop
-filled-requires c κs = subst (λ (l : Label). Safe l (c .before .before .before .before .before .before .before .loop .w)) (c .before .before .before .before .before .label .given .1) (good-safe (c .before .before .before .before .before .before .before .loop .inv .0))
+filled-requires c κs = (c .before .before .before .before .filling-of .ensures .1 .1, subst (λ (l : Label). Safe l (c .before .before .before .before .before .before .before .before .before .loop .w)) (c .before .before .before .before .before .before .before .label .given .1) (good-safe (c .before .before .before .before .before .before .before .before .before .loop .inv .0)))
 
 loop-less-4 : tie.Need-loop-less-4 Inv-loop μ-loop
-loop-less-4 c = steps-fine (c .before .before .before .before .before .before .label .given .1) (c .before .before .before .before .before .before .before .before .loop .inv .0) (c .filled .ensures) (filled-fine _ _ _) .falls
+loop-less-4 c = steps-fine (c .before .before .before .before .before .before .before .before .label .given .1) (c .before .before .before .before .before .before .before .before .before .before .loop .inv .0) (c .filled .ensures) (filled-fine _ _ _) .falls
 
 loop-again-4 : tie.Need-loop-again-4 Inv-loop μ-loop
 loop-again-4 c =
-    let f = steps-fine (c .before .before .before .before .before .before .label .given .1) (c .before .before .before .before .before .before .before .before .loop .inv .0) (c .filled .ensures) (filled-fine _ _ _) in
-    let step = fills _ _ _ (c .before .before .before .before .before .before .label .given .1) (c .before .before .before .row-of .ensures) (c .before .before .skip-of .ensures) (c .before .far .ensures) (c .filled .ensures) in
-    (f .good, leads-more (c .before .before .before .before .before .before .before .before .loop .inv .1) step (f .falls))
+    let f = steps-fine (c .before .before .before .before .before .before .before .before .label .given .1) (c .before .before .before .before .before .before .before .before .before .before .loop .inv .0) (c .filled .ensures) (filled-fine _ _ _) in
+    let step = fills _ _ _ (c .before .before .before .before .before .before .before .before .label .given .1) (c .before .before .before .before .before .filling-of .ensures) (c .before .before .before .row-of .ensures) (c .before .before .skip-of .ensures) (c .before .far .ensures) (c .filled .ensures) in
+    (f .good, leads-more (c .before .before .before .before .before .before .before .before .before .before .loop .inv .1) step (f .falls))
 
 enum-told-4 : tie.Need-enum-told-4 Inv-loop μ-loop
 enum-told-4 c = search needs
@@ -168,6 +171,7 @@ walk-rows-spec =
     loop-less-3
     loop-again-3
     enum-known-label
+    filling-of-requires
     row-of-requires
     cast-skip-of
     skip-of-requires

@@ -6,29 +6,22 @@ use borrow.Author.Needs.{needs}
 use Rattle.findf.proofs.walk.filled.Statement.{statement}
 use Rattle.findf.proofs.walk.filled.Tie as tie
 
-back-requires : tie.Need-back-requires
-back-requires c κs = search needs
-
 add-n : tie.Need-add-n
 add-n c = search needs
 
 sub-t8 : tie.Need-sub-t8
-sub-t8 c = omega (arith, back-takes (c .before .before .before .before .args .fill))
+sub-t8 c = omega (arith, back-takes (c .before .before .before .args .fill))
 
 returns : tie.Need-returns
 unfolding filledOf filledBy
-returns c = simp (← c .before .before .before .back .ensures, le-leb _ _ (c .before .if1 .taken))
-
-after-requires : tie.Need-after-requires
-after-requires c κs = search needs
+returns c = let p = c .before .before .before .pre .0 in simp (← p .0, le-leb _ _ (c .before .if1 .taken))
 
 sub-t9 : tie.Need-sub-t9
-sub-t9 c = omega (arith, back-takes (c .before .before .before .before .before .args .fill))
+sub-t9 c = omega (arith, back-takes (c .before .before .before .args .fill))
 
 returns-2 : tie.Need-returns-2
 unfolding filledOf filledBy
-returns-2 c = simp (← c .before .before .before .before .back .ensures, lt-leb _ _ (c .before .before .if1 .left), ← c .before .after .ensures)
+returns-2 c = let p = c .before .before .before .pre .0 in simp (← p .0, ← p .1, lt-leb _ _ (c .before .if1 .left))
 
 pub filled-spec : {M : Type 1} → statement M
-filled-spec =
-    tie.close (tie.spec back-requires add-n sub-t8 returns after-requires sub-t9 returns-2)
+filled-spec = tie.close (tie.spec add-n sub-t8 returns sub-t9 returns-2)
