@@ -18,15 +18,6 @@ broken [] = 0
 broken ((n, true) ∷ ls) = broken ls
 broken ((n, false) ∷ ls) = n
 
--- what the answer of a check stands for: the values that it accepts, or the number of its limit
-pub data Checked (A : Type 0) : Type 0 where
-  accepted : A → Checked A
-  refused : ℕ → Checked A
-
-unfoldable pub checked : {A : Type 0} → ℕ → Bool → A → Checked A
-checked n true x = accepted x
-checked n false x = refused n
-
 -- 3. "k, a point counted from 0, is above 4."
 abbrev pub refusalK : ℕ
 refusalK = 3
