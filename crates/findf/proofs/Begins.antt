@@ -6,37 +6,14 @@ use lib.IntN.{ℤ}
 use lib.Ieee.{Float}
 use Rattle.arith.specs.Floats.{f32, _⊗_}
 use Rattle.findf.specs.Penang.{0·0, penangOf}
-use Rattle.findf.specs.Findf.{inputsOf, walkedOf, jfhzOf, unlessOf, zeros, startedOf}
+use Rattle.findf.specs.Findf.{inputsOf, walkedOf, jfhzOf, unlessOf, begunBy, startedOf}
 use Rattle.findf.specs.declared.penang.Penetration.{Penetration}
 use Rattle.findf.specs.declared.Reflectrix.{Reflectrix}
-
--- the start's contents, with the farthest hop and the skip distance by name
-abbrev begunBy : Reflectrix → Penetration → Float → Float → Reflectrix
-begunBy r p dmaxkm dskpkm =
-    record {
-      delfx = zeros;
-      hpflx = zeros;
-      htflx = r .htflx;
-      gdflx = zeros;
-      fvflx = r .fvflx;
-      afflx = r .afflx;
-      imode = r .imode;
-      dskpkm = dskpkm;
-      delskp = r .delskp;
-      hpskp = r .hpskp;
-      htskp = r .htskp;
-      dmaxkm = dmaxkm;
-      fvskp = r .fvskp;
-      iskp = r .iskp;
-      delpen = p .delpen;
-      iaftxr = r .iaftxr;
-      «rows_this_call» = 0;
-    }
 
 pub begins : (r : Reflectrix) (nang : ℕ) (freq amind fi1 fi2 : Float) (fvert hprim htrue afac : List Float) (ifob : List ℤ)
     {j : ℕ} {p : Penetration} {dmaxkm dskpkm : Float} → j ≡ jfhzOf freq → p ≡ penangOf fvert htrue fi1 freq
     → dmaxkm ≡ unlessOf (p .dead) 0·0 → dskpkm ≡ unlessOf (p .dead) (f32 0x461c_4000)
-    → walkedOf (inputsOf nang freq amind j fi1 (fi2 ⊗ fi2) (p .delpen) fvert hprim htrue afac ifob) (begunBy r p dmaxkm dskpkm)
+    → walkedOf (inputsOf nang freq amind j fi1 (fi2 ⊗ fi2) (p .delpen) fvert hprim htrue afac ifob) (begunBy r (p .delpen) dmaxkm dskpkm)
     ≡ startedOf r nang freq amind fi1 fi2 fvert hprim htrue afac ifob
 unfolding startedOf
 begins r nang freq amind fi1 fi2 fvert hprim htrue afac ifob j p m d = rw (j, m, d, p)

@@ -108,10 +108,9 @@ unlessOf false x = x
 abbrev pub zeros : List Float
 zeros = replicate 45 0·0
 
--- lines 684 to 696: "It first sets dmaxkm 0, dskpkm 10000, and hpflx, delfx, gdflx to 0 in all 45 rows; every other field keeps its old contents
--- until written", and the row count to 0; then penang (10000.0 by its bits)
-abbrev pub begun : Reflectrix → Penetration → Reflectrix
-begun r p =
+-- the start's contents, with the penetration angles, the farthest hop and the skip distance by name
+abbrev pub begunBy : Reflectrix → List Float → Float → Float → Reflectrix
+begunBy r delpen dmaxkm dskpkm =
     record {
       delfx = zeros;
       hpflx = zeros;
@@ -120,17 +119,22 @@ begun r p =
       fvflx = r .fvflx;
       afflx = r .afflx;
       imode = r .imode;
-      dskpkm = unlessOf (p .dead) (f32 0x461c_4000);
+      dskpkm = dskpkm;
       delskp = r .delskp;
       hpskp = r .hpskp;
       htskp = r .htskp;
-      dmaxkm = unlessOf (p .dead) 0·0;
+      dmaxkm = dmaxkm;
       fvskp = r .fvskp;
       iskp = r .iskp;
-      delpen = p .delpen;
+      delpen = delpen;
       iaftxr = r .iaftxr;
       «rows_this_call» = 0;
     }
+
+-- lines 684 to 696: "It first sets dmaxkm 0, dskpkm 10000, and hpflx, delfx, gdflx to 0 in all 45 rows; every other field keeps its old contents
+-- until written", and the row count to 0; then penang (10000.0 by its bits)
+abbrev pub begun : Reflectrix → Penetration → Reflectrix
+begun r p = begunBy r (p .delpen) (unlessOf (p .dead) 0·0) (unlessOf (p .dead) (f32 0x461c_4000))
 
 -- fc2 is the square of fi's third number (line 692)
 abbrev pub begunWalk : Reflectrix → ℕ → Float → Float → Float → Float → List Float → List Float → List Float → List Float → List ℤ → Penetration → Walked
