@@ -87,53 +87,57 @@ skip-of-requires c κs = search needs
 far-requires : tie.Need-far-requires Inv-loop μ-loop
 far-requires c κs = search needs
 
+-- the bounds of the walk at the fill at hand
+bounds : (c : tie.After-far Inv-loop μ-loop) → Good (c .before .before .before .before .before .before .before .before .before .before .before .args .nang) (c .before .before .before .before .before .before .before .before .before .loop .w)
+bounds c = c .before .before .before .before .before .before .before .before .before .loop .inv .0
+
 mul-delfx : tie.Need-mul-delfx Inv-loop μ-loop
-mul-delfx c = omega (arith, c .before .before .before .before .before .before .before .before .before .loop .inv .0)
+mul-delfx c = omega (arith, bounds c)
 
 element-write-delfx : tie.Need-element-write-delfx Inv-loop μ-loop
-element-write-delfx c = omega (arith, c .before .before .before .before .before .before .before .before .before .loop .inv .0)
+element-write-delfx c = omega (arith, bounds c)
 
 mul-hpflx : tie.Need-mul-hpflx Inv-loop μ-loop
-mul-hpflx c = omega (arith, c .before .before .before .before .before .before .before .before .before .loop .inv .0)
+mul-hpflx c = omega (arith, bounds c)
 
 element-write-hpflx : tie.Need-element-write-hpflx Inv-loop μ-loop
-element-write-hpflx c = omega (arith, c .before .before .before .before .before .before .before .before .before .loop .inv .0)
+element-write-hpflx c = omega (arith, bounds c)
 
 mul-htflx : tie.Need-mul-htflx Inv-loop μ-loop
-mul-htflx c = omega (arith, c .before .before .before .before .before .before .before .before .before .loop .inv .0)
+mul-htflx c = omega (arith, bounds c)
 
 element-write-htflx : tie.Need-element-write-htflx Inv-loop μ-loop
-element-write-htflx c = omega (arith, c .before .before .before .before .before .before .before .before .before .loop .inv .0)
+element-write-htflx c = omega (arith, bounds c)
 
 mul-gdflx : tie.Need-mul-gdflx Inv-loop μ-loop
-mul-gdflx c = omega (arith, c .before .before .before .before .before .before .before .before .before .loop .inv .0)
+mul-gdflx c = omega (arith, bounds c)
 
 element-write-gdflx : tie.Need-element-write-gdflx Inv-loop μ-loop
-element-write-gdflx c = omega (arith, c .before .before .before .before .before .before .before .before .before .loop .inv .0)
+element-write-gdflx c = omega (arith, bounds c)
 
 mul-fvflx : tie.Need-mul-fvflx Inv-loop μ-loop
-mul-fvflx c = omega (arith, c .before .before .before .before .before .before .before .before .before .loop .inv .0)
+mul-fvflx c = omega (arith, bounds c)
 
 element-write-fvflx : tie.Need-element-write-fvflx Inv-loop μ-loop
-element-write-fvflx c = omega (arith, c .before .before .before .before .before .before .before .before .before .loop .inv .0)
+element-write-fvflx c = omega (arith, bounds c)
 
 mul-afflx : tie.Need-mul-afflx Inv-loop μ-loop
-mul-afflx c = omega (arith, c .before .before .before .before .before .before .before .before .before .loop .inv .0)
+mul-afflx c = omega (arith, bounds c)
 
 element-write-afflx : tie.Need-element-write-afflx Inv-loop μ-loop
-element-write-afflx c = omega (arith, c .before .before .before .before .before .before .before .before .before .loop .inv .0)
+element-write-afflx c = omega (arith, bounds c)
 
 mul-imode : tie.Need-mul-imode Inv-loop μ-loop
-mul-imode c = omega (arith, c .before .before .before .before .before .before .before .before .before .loop .inv .0)
+mul-imode c = omega (arith, bounds c)
 
 element-write-imode : tie.Need-element-write-imode Inv-loop μ-loop
-element-write-imode c = omega (arith, c .before .before .before .before .before .before .before .before .before .loop .inv .0)
+element-write-imode c = omega (arith, bounds c)
 
 add-count : tie.Need-add-count Inv-loop μ-loop
-add-count c = omega (arith, c .before .before .before .before .before .before .before .before .before .loop .inv .0)
+add-count c = omega (arith, bounds c)
 
 filled-requires : tie.Need-filled-requires Inv-loop μ-loop
-filled-requires c κs = (c .before .before .before .before .filling-of .ensures .1 .1, subst (λ (l : Label). Safe l (c .before .before .before .before .before .before .before .before .before .loop .w)) (c .before .before .before .before .before .before .before .label .given .1) (good-safe (c .before .before .before .before .before .before .before .before .before .loop .inv .0)))
+filled-requires c κs = (c .before .before .before .before .filling-of .ensures .1 .1, subst (λ (l : Label). Safe l (c .before .before .before .before .before .before .before .before .before .loop .w)) (c .before .before .before .before .before .before .before .label .given .1) (good-safe (bounds c)))
 
 loop-less-4 : tie.Need-loop-less-4 Inv-loop μ-loop
 loop-less-4 c = steps-fine (c .before .before .before .before .before .before .before .before .label .given .1) (c .before .before .before .before .before .before .before .before .before .before .loop .inv .0) (c .filled .ensures) (filled-fine _ _ _) .falls
