@@ -6,7 +6,7 @@ use Prim.Native.Nat.{ℕ, _+_, _*_, _^_, _-_, _≤_, _<_}
 use native.Mathlib.Nat.{le-trans, le-of-eq, add-le-add, add-comm, add-assoc, add-left-comm, mul-comm, mul-assoc, mul-left-comm, mul-add, add-mul, mul-le-mul, mul-le-mul-right, le-of-mul-le-mul-right, div-mul-le-self, mul-pos, pow-suc, mul-le-mul-left}
 use native.Mathlib.Omega.{arith}
 use lib.Dec.{T, lit≤, lit<}
-use Rattle.angles.specs.Series.{mh, sumOf, fixed, Near, fourth, square, power, d25, sinPlusTerms, sinMinusTerms, sinUp, sinDown, sinDen, sinPlus, sinMinus}
+use Rattle.angles.specs.Series.{mh, sumOf, fixed, Near, fourth, square, cube, power, d25, sinPlusTerms, sinMinusTerms, sinUp, sinDown, sinDen, sinPlus, sinMinus}
 use Rattle.angles.specs.Error.{over, mh-le, fixed-le, modest, degree, near-sum}
 
 product-below : (s a b x s' a' b' x' S g M : ℕ) → s * s' ≡ S * M → 0 < M → g * M ≤ x * x' → x * b ≤ s * a → x' * b' ≤ s' * a' → g * (b * b') ≤ S * (a * a')
@@ -70,7 +70,7 @@ square-le n h = mh-under n n (2 ^ 63) (2 ^ 63) (2 ^ 62) h h (lit≤ tt)
 pub power-le : (n : ℕ) → n ≤ 2 ^ 63 → power n ≤ 2 ^ 63
 power-le n h = mul-le-mul-right 8 (mh-under (square n) (square n) (2 ^ 62) (2 ^ 62) (2 ^ 60) (square-le n h) (square-le n h) (lit≤ tt))
 
-pub cube-le : (n : ℕ) → n ≤ 2 ^ 63 → mh n (square n) * 4 ≤ 2 ^ 63
+pub cube-le : (n : ℕ) → n ≤ 2 ^ 63 → cube n ≤ 2 ^ 63
 cube-le n h = mul-le-mul-right 4 (mh-under n (square n) (2 ^ 63) (2 ^ 62) (2 ^ 61) h (square-le n h) (lit≤ tt))
 
 -- ---- the evaluation, and how large it is
@@ -80,7 +80,7 @@ sin-plus-le n h = mh-le n (fixed d25 (2 ^ 60) sinPlusTerms (power n)) h (le-tran
 
 pub sin-minus-le : (n : ℕ) → n ≤ 2 ^ 63 → sinMinus n ≤ 2 ^ 63
 unfolding sinMinus
-sin-minus-le n h = mh-le (mh n (square n) * 4) (fixed d25 (2 ^ 64) sinMinusTerms (power n)) (cube-le n h) (le-trans (fixed-le d25 (2 ^ 64) sinMinusTerms (power n) (power-le n h) tt) (lit≤ tt))
+sin-minus-le n h = mh-le (cube n) (fixed d25 (2 ^ 64) sinMinusTerms (power n)) (cube-le n h) (le-trans (fixed-le d25 (2 ^ 64) sinMinusTerms (power n) (power-le n h) tt) (lit≤ tt))
 
 module _ (a b n : ℕ) (b-pos : 0 < b) (n-le : n ≤ 2 ^ 63) (at : Near (2 ^ 61) a b n 1) where
   pub square-near : Near (2 ^ 58) (a * a) (b * b) (square n) 3
@@ -128,7 +128,7 @@ module _ (a b n : ℕ) (b-pos : 0 < b) (n-le : n ≤ 2 ^ 63) (at : Near (2 ^ 61)
       small : (x g : ℕ) → x ≤ 2 ^ 63 → g ≤ 2 ^ 64 - 2 ^ 32 → x * 52 + 1 * g + 1 * 52 ≤ 27 * 2 ^ 64
       small x g h k = omega arith
 
-  cube-near : Near (2 ^ 57) (a * (a * a)) (b * (b * b)) (mh n (square n) * 4) 12
+  cube-near : Near (2 ^ 57) (a * (a * a)) (b * (b * b)) (cube n) 12
   cube-near = scaled (mh n (square n)) (b * (b * b)) (a * (a * a)) (near-product (2 ^ 61) a b n 1 (2 ^ 58) (a * a) (b * b) (square n) 3 (2 ^ 55) 3 refl (loss n 1 (square n) 3 2 (small n (square n) n-le (square-le n n-le))) at square-near)
     where
       small : (x z : ℕ) → x ≤ 2 ^ 63 → z ≤ 2 ^ 62 → x * 3 + 1 * z + 1 * 3 ≤ 2 * 2 ^ 64
@@ -147,7 +147,7 @@ module _ (a b n : ℕ) (b-pos : 0 < b) (n-le : n ≤ 2 ^ 63) (at : Near (2 ^ 61)
   minus-near =
       let y = fourth a in
       let m = fourth b in
-      let n3 = mh n (square n) * 4 in
+      let n3 = cube n in
       let g = fixed d25 (2 ^ 64) sinMinusTerms (power n) in
       subst (λ (k : ℕ). Near (2 ^ 57) (a * (a * a) * sumOf sinMinusTerms y m * (b * b)) (b * (d25 * k)) (mh n3 g) 40) (sym (pow-suc m 5))
       (widened (2 ^ 57) (a * (a * a) * sumOf sinMinusTerms y m) b d25 (m ^ 5) (mh n3 g)

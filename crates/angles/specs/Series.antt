@@ -86,9 +86,12 @@ fixed d f [] v = 0
 fixed d f (c ∷ []) v = f * c / d
 fixed d f (c ∷ (c' ∷ cs)) v = f * c / d + mh v (fixed d (512 * f) (c' ∷ cs) v)
 
--- n is the angle times 2 ^ 61, its square the angle's times 2 ^ 58, its power the angle's fourth times 2 ^ 55
+-- n is the angle times 2 ^ 61, its square the angle's times 2 ^ 58, its cube the angle's times 2 ^ 57, its power the angle's fourth times 2 ^ 55
 abbrev pub square : ℕ → ℕ
 square n = mh n n
+
+abbrev pub cube : ℕ → ℕ
+cube n = mh n (square n) * 4
 
 abbrev pub power : ℕ → ℕ
 power n = mh (square n) (square n) * 8
@@ -100,7 +103,7 @@ sinPlus n = mh n (fixed d25 (2 ^ 60) sinPlusTerms (power n))
 
 unfoldable pub sinMinus : ℕ → ℕ
 unfolding fixed
-sinMinus n = mh (mh n (square n) * 4) (fixed d25 (2 ^ 64) sinMinusTerms (power n))
+sinMinus n = mh (cube n) (fixed d25 (2 ^ 64) sinMinusTerms (power n))
 
 -- the same of the cosine: v is the power of n, z its square
 unfoldable pub cosPlus : ℕ → ℕ

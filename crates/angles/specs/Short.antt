@@ -6,7 +6,7 @@ use native.Mathlib.Nat.{le-refl, le-trans, le-add-right, add-le-add, mul-add}
 use native.Mathlib.Omega.{arith}
 use lib.Dec.{lit≤}
 use lib.ListN.{take, drop}
-use Rattle.angles.specs.Series.{mh, fixed, square, power, d25, sinPlusTerms, sinMinusTerms, sinPlus, sinMinus}
+use Rattle.angles.specs.Series.{mh, fixed, cube, power, d25, sinPlusTerms, sinMinusTerms, sinPlus, sinMinus}
 use Rattle.angles.specs.SinCosBounded.{mh-mono, fixed-mono, power-mono, cube-mono}
 use Rattle.angles.specs.Grid.{half}
 use Rattle.angles.specs.Arcsine.{asinTop}
@@ -73,7 +73,7 @@ abbrev pub shortPlus : ℕ → ℕ
 shortPlus n = mh n (over d25 (2 ^ 60) (take 3 sinPlusTerms) (power n) 24850166697800741)
 
 abbrev pub shortMinus : ℕ → ℕ
-shortMinus n = mh (mh n (square n) * 4) (over d25 (2 ^ 64) (take 3 sinMinusTerms) (power n) 1893346034118151)
+shortMinus n = mh (cube n) (over d25 (2 ^ 64) (take 3 sinMinusTerms) (power n) 1893346034118151)
 
 module _ (n : ℕ) (h : n ≤ half asinTop) where
   pub short-plus : Close (shortPlus n) (sinPlus n) shortBy

@@ -8,7 +8,7 @@ use native.Mathlib.Decide.{decLe}
 use lib.Dec.{T, ltb, ltb→lt, lit≤, lit<}
 use lib.Ieee.Fits.{and-l, and-r}
 use lib.Ieee.Nearest.{div-mono}
-use Rattle.angles.specs.Series.{mh, fixed, power, square, d24, d25, sinPlusTerms, sinMinusTerms, cosPlusTerms, cosMinusTerms, sinPlus, sinMinus, cosPlus, cosMinus}
+use Rattle.angles.specs.Series.{mh, fixed, power, square, cube, d24, d25, sinPlusTerms, sinMinusTerms, cosPlusTerms, cosMinusTerms, sinPlus, sinMinus, cosPlus, cosMinus}
 
 -- ---- the parts rise with the angle
 pub mh-mono : (a b c d : ℕ) → a ≤ c → b ≤ d → mh a b ≤ mh c d
@@ -26,7 +26,7 @@ square-mono n k h = mh-mono n n k k h h
 pub power-mono : (n k : ℕ) → n ≤ k → power n ≤ power k
 power-mono n k h = mul-le-mul-right 8 (mh-mono (square n) (square n) (square k) (square k) (square-mono n k h) (square-mono n k h))
 
-pub cube-mono : (n k : ℕ) → n ≤ k → mh n (square n) * 4 ≤ mh k (square k) * 4
+pub cube-mono : (n k : ℕ) → n ≤ k → cube n ≤ cube k
 cube-mono n k h = mul-le-mul-right 4 (mh-mono n (square n) k (square k) h (square-mono n k h))
 
 abbrev Rises : (ℕ → ℕ) → Type 0
@@ -38,7 +38,7 @@ sin-plus-rises n k h = mh-mono n (fixed d25 (2 ^ 60) sinPlusTerms (power n)) k (
 
 sin-minus-rises : Rises sinMinus
 unfolding sinMinus
-sin-minus-rises n k h = mh-mono (mh n (square n) * 4) (fixed d25 (2 ^ 64) sinMinusTerms (power n)) (mh k (square k) * 4) (fixed d25 (2 ^ 64) sinMinusTerms (power k)) (cube-mono n k h) (fixed-mono d25 (2 ^ 64) sinMinusTerms (power n) (power k) (power-mono n k h))
+sin-minus-rises n k h = mh-mono (cube n) (fixed d25 (2 ^ 64) sinMinusTerms (power n)) (cube k) (fixed d25 (2 ^ 64) sinMinusTerms (power k)) (cube-mono n k h) (fixed-mono d25 (2 ^ 64) sinMinusTerms (power n) (power k) (power-mono n k h))
 
 -- the cosine's parts at an angle
 abbrev cosAdded : ℕ → ℕ

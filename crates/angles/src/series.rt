@@ -2,7 +2,7 @@
 ghost use mathlib.Core.Path.{_≡_};
 ghost use Prim.Native.Nat.{_+_, _*_, _/_, _^_, _≤_, _<_};
 ghost use lib.ListN.{take};
-ghost use Rattle.angles.specs.Series.{mh, d25, sinPlusTerms, sinMinusTerms, square, power, sinPlus, sinMinus, cosPlus, cosMinus};
+ghost use Rattle.angles.specs.Series.{mh, d25, sinPlusTerms, sinMinusTerms, square, cube, power, sinPlus, sinMinus, cosPlus, cosMinus};
 ghost use Rattle.angles.specs.Grid.{half};
 ghost use Rattle.angles.specs.Arcsine.{asinTop};
 ghost use Rattle.angles.specs.Short.{Close, over, shortBy};
@@ -91,7 +91,7 @@ struct Powers {
 
 fn powers_at(n: u64) -> Powers
     requires { ⌜ n ≤ 2 ^ 63 ⌝ }
-    ensures { λ r. ⌜ ((r .second ≡ square n) × ((r .third ≡ mh n (square n) * 4) × (r .fourth ≡ power n))) × (r .fourth ≤ 2 ^ 63) ⌝ }
+    ensures { λ r. ⌜ ((r .second ≡ square n) × ((r .third ≡ cube n) × (r .fourth ≡ power n))) × (r .fourth ≤ 2 ^ 63) ⌝ }
 {
     let z = high_product(n, n);
     Powers {

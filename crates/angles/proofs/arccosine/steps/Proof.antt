@@ -1,7 +1,6 @@
 -- `angles::arccosine::steps` meets its contract, whatever the guess. Assumes nothing.
 use borrow.Author.Needs.{needs}
-use Prim.Native.Nat.{ℕ, _/_, _%_, _≤_}
-use native.Mathlib.Omega.{arith}
+use Prim.Native.Nat.{_/_, _%_}
 use Rattle.angles.specs.Short.{exact}
 use Rattle.angles.specs.Arccosine.{acosLow, acosHigh, acosSteps}
 use Rattle.angles.specs.ArccosineLaws.{acos-guessed}
@@ -36,10 +35,7 @@ returns c =
     let j = a .h / 256 in
     let s = c .before .before .before .cosine-sides .ensures .0 in
     let g = c .before .agrees .ensures (c .if1 .taken) (acosLow (a .neg) (a .t) j) (acosHigh (a .neg) (a .t) j) (exact (s .0)) (exact (s .1)) in
-    acos-guessed (a .neg) (a .t) (q .result) j (a .h / 128 % 2) (bit (a .h)) (q .ensures .1 (a .t)) g
-  where
-    bit : (h : ℕ) → h / 128 % 2 ≤ 1
-    bit h = omega arith
+    acos-guessed (a .neg) (a .t) (q .result) j (a .h / 128 % 2) (search needs) (q .ensures .1 (a .t)) g
 
 returns-2 : tie.Need-returns-2
 unfolding acosSteps

@@ -1,7 +1,6 @@
 -- `angles::arctangent::steps` meets its contract, whatever the guess. Assumes nothing.
 use borrow.Author.Needs.{needs}
-use Prim.Native.Nat.{ℕ, _/_, _%_, _≤_}
-use native.Mathlib.Omega.{arith}
+use Prim.Native.Nat.{_/_, _%_}
 use Rattle.angles.specs.Short.{exact}
 use Rattle.angles.specs.Arctangent.{atanLow, atanHigh, atanSteps}
 use Rattle.angles.specs.ArctangentGuess.{atan-tiny, guessed-steps}
@@ -40,10 +39,7 @@ returns-2 c =
     let q = g .before .slack in
     let j = a .h / 256 in
     let e = s .tangent-sides .ensures .0 in
-    guessed-steps (a .t) (q .result) j (a .h / 128 % 2) (s .before .before .pre) (bit (a .h)) (q .ensures .1) (g .agrees .ensures (c .if2 .taken) (atanLow (a .t) j) (atanHigh (a .t) j) (exact (e .0)) (exact (e .1)))
-  where
-    bit : (h : ℕ) → h / 128 % 2 ≤ 1
-    bit h = omega arith
+    guessed-steps (a .t) (q .result) j (a .h / 128 % 2) (s .before .before .pre) (search needs) (q .ensures .1) (g .agrees .ensures (c .if2 .taken) (atanLow (a .t) j) (atanHigh (a .t) j) (exact (e .0)) (exact (e .1)))
 
 returns-3 : tie.Need-returns-3
 unfolding atanSteps

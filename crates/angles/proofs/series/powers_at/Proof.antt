@@ -4,12 +4,12 @@ use mathlib.Core.Path.{_≡_, sym, subst}
 use Prim.Native.Nat.{ℕ, _*_, _^_, _≤_}
 use native.Mathlib.Nat.{lt-of-le-of-lt}
 use lib.Dec.{lit<}
-use Rattle.angles.specs.Series.{mh, square, power}
+use Rattle.angles.specs.Series.{cube, power}
 use Rattle.angles.specs.Near.{power-le, cube-le}
 use Rattle.angles.proofs.series.powers_at.Statement.{statement}
 use Rattle.angles.proofs.series.powers_at.Tie as tie
 
-third-is : (c : tie.After-high-product2) → c .high-product2 .result * 4 ≡ mh (c .before .before .args .n) (square (c .before .before .args .n)) * 4
+third-is : (c : tie.After-high-product2) → c .high-product2 .result * 4 ≡ cube (c .before .before .args .n)
 third-is c = cc
 
 fourth-is : (c : tie.After-high-product3) → c .high-product3 .result * 8 ≡ power (c .before .before .before .args .n)
