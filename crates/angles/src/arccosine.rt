@@ -7,9 +7,10 @@ ghost use Prim.Native.Nat.{ℕ, _^_, _≤_};
 ghost use Rattle.angles.specs.LeastLaws.{Steep};
 ghost use Rattle.angles.specs.Arccosine.{acosTop, acosLow, acosHigh, acosSteps, acosOf};
 use super::grid::in_steps;
-use super::guess::arc;
+use super::guess::QUARTER;
 use super::guess::in_256ths;
 use super::guess::magnitude;
+use super::guess::sine_arc;
 use super::scale::is_within;
 use super::scale::scaled_by;
 use super::search::Arc;
@@ -67,11 +68,11 @@ fn steps(neg: bool, t: u64, h: u32) -> u64
 fn guess(neg: bool, x: f32) -> u32
     requires { ⌜ T (not (isNan x)) ⌝ }
 {
-    let g = arc(magnitude(x));
+    let g = sine_arc(magnitude(x));
     if neg {
-        in_256ths(13176794.6333222841 - g)
+        in_256ths(QUARTER + g)
     } else {
-        in_256ths(g)
+        in_256ths(QUARTER - g)
     }
 }
 

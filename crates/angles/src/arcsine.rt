@@ -6,9 +6,9 @@ ghost use lib.Ieee.{isNan};
 ghost use Prim.Native.Nat.{_+_, _^_, _≤_};
 ghost use Rattle.angles.specs.Arcsine.{asinSteps, asinOf};
 use super::grid::in_steps;
-use super::guess::arc;
 use super::guess::in_256ths;
 use super::guess::magnitude;
+use super::guess::sine_arc;
 use super::scale::is_within;
 use super::scale::scaled_by;
 use super::search::Arc;
@@ -49,7 +49,7 @@ fn steps(t: u64, h: u32) -> u64
 fn guess(x: f32) -> u32
     requires { ⌜ T (not (isNan x)) ⌝ }
 {
-    in_256ths(6588397.31666114207 - arc(magnitude(x)))
+    in_256ths(sine_arc(magnitude(x)))
 }
 
 pub(crate) fn asin(x: f32) -> f32

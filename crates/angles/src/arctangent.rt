@@ -7,9 +7,10 @@ ghost use Prim.Native.Nat.{_-_, _^_, _≤_};
 ghost use Rattle.angles.specs.LeastLaws.{Steep};
 ghost use Rattle.angles.specs.Arctangent.{atanTop, atanLow, atanHigh, atanSteps, atanUnits, atanOf};
 use super::grid::in_steps;
+use super::guess::QUARTER;
 use super::guess::in_256ths;
 use super::guess::magnitude;
-use super::guess::small_arc;
+use super::guess::tangent_arc;
 use super::scale::is_within;
 use super::scale::scaled_by;
 use super::search::Arc;
@@ -75,9 +76,9 @@ fn guess(x: f32) -> u32
     if w > 1.0 {
         // Past 2^23 the recipe's argument is 2^23.
         let c = if w < 8388608.0 { w } else { 8388608.0 };
-        in_256ths(6588397.31666114207 - small_arc(1.0 / c))
+        in_256ths(QUARTER - tangent_arc(1.0 / c))
     } else {
-        in_256ths(small_arc(w))
+        in_256ths(tangent_arc(w))
     }
 }
 

@@ -3,6 +3,9 @@ ghost use mathlib.Core.Bool.{not};
 ghost use lib.Dec.{T};
 ghost use lib.Ieee.{isNan};
 
+// A quarter turn in steps of 2^-22.
+pub(crate) const QUARTER: f64 = 6588397.31666114207;
+
 // |x|
 pub(crate) fn magnitude(x: f32) -> f64
     requires { ⌜ T (not (isNan x)) ⌝ }
@@ -32,25 +35,36 @@ pub(crate) fn in_256ths(g: f64) -> u32 {
     }
 }
 
-// About the arccosine of a, from 0 to 1, in steps of 2^-22.
-pub(crate) fn arc(a: f64) -> f64 {
+// About the arccosine of a, from 63/64 to 1, in steps of 2^-22.
+fn small_cosine_arc(a: f64) -> f64 {
     let u = 1.0 - a;
     let y = rough_root(u);
     let r = u * y;
     let e = 1.0 - r * y;
-    let u2 = u * u;
-    let u4 = u2 * u2;
-    let q0 = 5931641.6001064284 + u * 494303.74801840086;
-    let q1 = 111209.10507684723 + u * 33215.612666733483;
-    let q2 = 10541.194921687176 + u * 6711.6851383364638;
-    let q3 = -3806.268491552903 + u * 7453.0976415993555;
-    let q4 = -4530.9000319295055 + u * 1658.4390430727619;
-    let s = r * ((q0 + u2 * q1) + u4 * ((q2 + u2 * q3) + u4 * q4));
+    let s = r * (5931641.61548108 + u * (494296.32773561915 + u * 112129.76160278294));
     s + s * e * (0.5 + 0.375 * e)
 }
 
+// About the arcsine of a, from 0 to 1, in steps of 2^-22.
+pub(crate) fn sine_arc(a: f64) -> f64 {
+    if a <= 0.984375 {
+        let y = a * a;
+        let y2 = y * y;
+        let y4 = y2 * y2;
+        let n0 = 4194304.04325393 - y * 16874762.079834398;
+        let n1 = 26880973.292997252 - y * 21280132.259549502;
+        let n2 = 8518353.542320075 - y * 1508381.0213843535 + y2 * 69666.93622882846;
+        let d0 = 1.0 - y * 4.18992306274578;
+        let d1 = 7.0322389394428475 - y * 5.975987134356561;
+        let d2 = 2.6560808381988177 - y * 0.5629222834636245 + y2 * 0.04051616964591569;
+        a * (n0 + y2 * n1 + y4 * n2) / (d0 + y2 * d1 + y4 * d2)
+    } else {
+        QUARTER - small_cosine_arc(a)
+    }
+}
+
 // About the arctangent of r, from 0 to 1, in steps of 2^-22.
-pub(crate) fn small_arc(r: f64) -> f64 {
+pub(crate) fn tangent_arc(r: f64) -> f64 {
     let y = r * r;
     let y2 = y * y;
     let y4 = y2 * y2;
