@@ -4,12 +4,13 @@ use mathlib.Core.Bool.{false}
 use lib.Ieee.{Float}
 use Rattle.arith.specs.Run.{more, done, stopBy, until}
 use Rattle.findf.specs.Walk.{searchOf, nextLayerOf, nextCuspOf, backOf, afterOf, filledOf, doneAt}
-use Rattle.findf.specs.Rows.{rawOf, modeOf, rowFrom, rowOf, skipOf, skipIn, farOf, putOf}
+use Rattle.findf.specs.Rows.{rawOf, modeOf, correctionOf, rowBy, rowOf, skipOf, skipIn, farOf, putOf}
 use Rattle.findf.specs.Findf.{Inputs, State, fillOf, stepBy, stepOf, turnOf}
 use Rattle.findf.specs.declared.walk.Walk.{Walk}
 use Rattle.findf.specs.declared.walk.Label as L
 use Rattle.findf.specs.declared.walk.Label.the-variants.{Search, NextLayer, Fill, NextCusp, Done}
 use Rattle.findf.specs.declared.walk.Fill as F
+use Rattle.findf.specs.declared.rows.Corrected.{Corrected}
 use Rattle.findf.specs.declared.rows.Filling.{Filling}
 use Rattle.findf.specs.declared.rows.Row.{Row}
 use Rattle.findf.specs.declared.rows.Skip.{Skip}
@@ -39,17 +40,18 @@ module _ (e : Inputs) (w : Walk) (r : Reflectrix) where
       (q .raw ≡ rawOf (e .fvert) (e .hprim) (e .htrue) (e .afac) (e .ifob) (e .delpen) (r .delfx) (e .jfhz) fill w)
       × ((q .mode ≡ modeOf fill (w .il) (e .fi1)) × ((q .back ≡ backOf fill) × (q .after ≡ afterOf fill)))
 
-  row-is : (fill : F.Fill) {q : Filling} {t : Row} → Filled fill q → t ≡ rowFrom (e .freq) (e .fc2) fill (w .ia) (q .mode) (q .raw)
+  row-is : (fill : F.Fill) {q : Filling} {m : Corrected} {t : Row} → Filled fill q → m ≡ correctionOf (e .freq) (e .fc2) fill (w .ia) (q .raw)
+      → t ≡ rowBy (q .raw) m (q .mode)
       → t ≡ rowOf (e .fvert) (e .hprim) (e .htrue) (e .afac) (e .ifob) (e .delpen) (r .delfx) (e .fi1) (e .fc2) (e .freq) (e .jfhz) fill w
   unfolding rowOf
-  row-is fill q t = rw (t, q .0, q .1 .0)
+  row-is fill q m t = rw (t, m, q .0, q .1 .0)
 
-  pub fills : {fill : F.Fill} {v : Walk} {q : Filling} {t : Row} {s : Skip} {d : Float} → w .label ≡ Fill fill → Filled fill q
-      → t ≡ rowFrom (e .freq) (e .fc2) fill (w .ia) (q .mode) (q .raw)
+  pub fills : {fill : F.Fill} {v : Walk} {q : Filling} {m : Corrected} {t : Row} {s : Skip} {d : Float} → w .label ≡ Fill fill → Filled fill q
+      → m ≡ correctionOf (e .freq) (e .fc2) fill (w .ia) (q .raw) → t ≡ rowBy (q .raw) m (q .mode)
       → s ≡ skipOf (skipIn r) t (w .il) → d ≡ farOf (r .dmaxkm) (t .gdr) (t .del) (e .amind) → v ≡ filledOf fill w
       → turnOf e (w, r) ≡ more (v, putOf r (w .rows) t s d)
   unfolding stepBy fillOf
-  fills {fill} p q t s d v = turns (Fill fill) p refl (simp (← row-is fill q t, ← s, ← d, ← v))
+  fills {fill} p q m t s d v = turns (Fill fill) p refl (simp (← row-is fill q m t, ← s, ← d, ← v))
 
   pub ends : w .label ≡ Done → turnOf e (w, r) ≡ done (w, r)
   unfolding until

@@ -85,25 +85,24 @@ highOf freq fc2 ht fv hp =
     let xhp = (hp ⊖ ht) ⊘ RZ in
     hp ⊕ (((xfsq ⊗ xmut) ⊗ xhp) ⊗ (ht ⊕ ((2·0 ⊗ (RZ ⊕ ht)) ⊗ xhp)))
 
--- the hop length (lines 872 to 873)
-unfoldable pub hopOf : Float → Float → Float → Float
-hopOf del rcosd high = (2·0 ⊗ RZ) ⊗ ((PIO2 ⊖ del) ⊖ asinOf (rcosd ⊘ (RZ ⊕ high)))
-
--- "Each row then gets the height correction and hop length of the source"
-unfoldable pub correctedOf : Float → Float → Float → Float → Float → Float → Float → Corrected
-correctedOf freq fc2 del rcosd ht fv hp =
+-- "Each row then gets the height correction and hop length of the source": the height, and the argument of line 872's arcsine
+unfoldable pub correctedOf : Float → Float → Float → Float → Float → Float → Corrected
+correctedOf freq fc2 rcosd ht fv hp =
     let high = highOf freq fc2 ht fv hp in
-    record { hp = high; gdr = hopOf del rcosd high }
+    record { hp = high; sine = rcosd ⊘ (RZ ⊕ high) }
 
--- the row as it is written
-abbrev pub rowBy : Raw → Corrected → ℕ → Row
-rowBy a m mode = record { del = a .del; hp = m .hp; ht = a .ht; gdr = m .gdr; fv = a .fv; af = a .af; mode = mode }
+-- the hop length (lines 872 to 873)
+unfoldable pub hopOf : Float → Float → Float
+hopOf del sine = (2·0 ⊗ RZ) ⊗ ((PIO2 ⊖ del) ⊖ asinOf sine)
 
 -- line 864: the row's angle in radians
 abbrev pub correctionOf : Float → Float → Fill → ℕ → Raw → Corrected
-correctionOf freq fc2 fill ia a =
-    let del = a .del ⊗ D2R in
-    correctedOf freq fc2 del (rcosdOf fill ia del) (a .ht) (a .fv) (a .hp)
+correctionOf freq fc2 fill ia a = correctedOf freq fc2 (rcosdOf fill ia (a .del ⊗ D2R)) (a .ht) (a .fv) (a .hp)
+
+-- the row as it is written
+abbrev pub rowBy : Raw → Corrected → ℕ → Row
+rowBy a m mode =
+    record { del = a .del; hp = m .hp; ht = a .ht; gdr = hopOf (a .del ⊗ D2R) (m .sine); fv = a .fv; af = a .af; mode = mode }
 
 abbrev pub rowFrom : Float → Float → Fill → ℕ → ℕ → Raw → Row
 rowFrom freq fc2 fill ia mode a = rowBy a (correctionOf freq fc2 fill ia a) mode

@@ -1,8 +1,15 @@
--- What a state must satisfy for the code of its label to stay inside the tables: ranges alone, which a program can test.
-use Prim.Native.Nat.{ℕ, _+_, _≤_}
+-- What a state must satisfy for the code of its label to stay inside the tables: ranges alone, which a program can test. And what a cosine worked out ahead of its row must be.
+use Prim.Native.Nat.{ℕ, _+_, _-_, _≤_}
+use mathlib.Core.Path.{_≡_}
+use mathlib.Core.Bool.{Bool, true, false}
+use Rattle.arith.specs.Floats.{_⊗_, RZ, D2R}
+use Rattle.angles.specs.SinCos.{cosOf}
+use Rattle.findf.specs.Walk.{angOf}
+use Rattle.findf.specs.declared.rows.Ahead.{Ahead}
 use Rattle.findf.specs.declared.walk.Walk.{Walk}
 use Rattle.findf.specs.declared.walk.Label.{Label}
 use Rattle.findf.specs.declared.walk.Label.the-variants.{Search, NextLayer, Fill, NextCusp, Done}
+use Rattle.findf.specs.declared.walk.Fill.{Fill as Kind}
 use Rattle.findf.specs.declared.walk.Fill.the-variants.{Exact, Interp, Cusp, NextCusp360}
 
 -- a number for each label: the four fills, then Search, NextLayer, NextCusp and Done
@@ -50,3 +57,14 @@ pub record Safe (l : Label) (w : Walk) : Type 0 where
   pub rows-low : follows l ≤ w .rows
   pub rows-cap : w .rows + due l ≤ 45
   pub looks-cap : w .looks ≤ 100000
+
+-- whether a fill's row has one of the table's angles
+abbrev pub tabled : Kind → Bool
+tabled Exact = true
+tabled Interp = true
+tabled Cusp = false
+tabled NextCusp360 = false
+
+-- what was worked out ahead is RZ times the cosine of its angle
+abbrev pub Foreseen : Ahead → Type 0
+Foreseen a = a .rcosd ≡ RZ ⊗ cosOf (angOf (a .ia - 1) ⊗ D2R)

@@ -111,6 +111,7 @@ fn walk_rows(
     ensures { λ r. ⌜ walkedFrom (now (delfx .exit)) (now (hpflx .exit)) (now (htflx .exit)) (now (gdflx .exit)) (now (fvflx .exit)) (now (afflx .exit)) (now (imode .exit)) r ≡ walkedOf (inputsOf nang freq amind jfhz fi1 fc2 (now (delpen .entry)) (now (fvert .entry)) (now (hprim .entry)) (now (htrue .entry)) (now (afac .entry)) (now (ifob .entry))) (reflectrixFrom (now (delfx .entry)) (now (hpflx .entry)) (now (htflx .entry)) (now (gdflx .entry)) (now (fvflx .entry)) (now (afflx .entry)) (now (imode .entry)) figures) ⌝ }
 {
     let ang = &walk::ANG;
+    let mut ahead = rows::ahead_of(ang, 0);
     let mut f = figures;
     let mut w = Walk {
         label: Label::Search,
@@ -153,7 +154,10 @@ fn walk_rows(
                 );
                 let raw = q.raw;
                 let after = q.after;
-                let t = rows::row_of(raw, q.mode, freq, fc2, fill, w.ia);
+                let m = rows::correction_of(raw, freq, fc2, fill, w.ia, ahead);
+                // Before the arcsine, whose answer takes long: the processor works at both.
+                ahead = rows::ahead_of(ang, w.ia);
+                let t = rows::row_of(raw, m, q.mode);
                 let s = rows::skip_of(
                     Skip {
                         dskpkm: f.dskpkm,

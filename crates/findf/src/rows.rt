@@ -3,9 +3,11 @@
 ghost use mathlib.Core.Path.{_≡_};
 ghost use Prim.Native.Nat.{_+_, _-_, _*_, _≤_, _<_};
 ghost use Rattle.findf.specs.Look.{Entries};
-ghost use Rattle.findf.specs.Walk.{angles, backOf, afterOf};
-ghost use Rattle.findf.specs.Rows.{gapOf, slopeOf, rawAt, rawBetween, nextModeOf, modeOf, rawOf, rcosdOf, correctedOf, rowFrom, skipOf, farOf};
-ghost use Rattle.findf.specs.Safe.{Safe};
+ghost use mathlib.Core.Bool.{true};
+ghost use Rattle.findf.specs.Walk.{angles, angOf, backOf, afterOf};
+ghost use Rattle.findf.specs.Rows.{gapOf, slopeOf, rawAt, rawBetween, nextModeOf, modeOf, rawOf, rcosdOf, correctedOf, hopOf, correctionOf, rowBy, skipOf, farOf};
+ghost use Rattle.arith.specs.Floats.{_⊗_, D2R};
+ghost use Rattle.findf.specs.Safe.{Safe, tabled, Foreseen};
 use super::look;
 use super::walk::Fill;
 use super::walk::Label;
@@ -30,9 +32,16 @@ pub(crate) struct Filling {
     pub after: Label,
 }
 
+// The corrected virtual height, and the sine of the ray's angle of incidence there.
 pub(crate) struct Corrected {
     pub hp: f32,
-    pub gdr: f32,
+    pub sine: f32,
+}
+
+// RZ times the cosine of the table's angle ia, worked out before its row.
+pub(crate) struct Ahead {
+    pub ia: usize,
+    pub rcosd: f32,
 }
 
 pub(crate) struct Row {
@@ -196,31 +205,105 @@ fn rcosd(label: Fill, ia: usize, del: f32) -> f32
     RZ * angles::cos(del)
 }
 
-// The Martyn correction for a spherical ionosphere: the corrected virtual height and the hop length.
-fn martyn(freq: f32, fc2: f32, del: f32, rcosd: f32, ht: f32, fv: f32, hp: f32) -> Corrected
-    ensures { λ r. ⌜ r ≡ correctedOf freq fc2 del rcosd ht fv hp ⌝ }
+// Whether a row has one of the table's angles.
+fn is_tabled(fill: Fill) -> bool
+    ensures { λ r. ⌜ r ≡ tabled fill ⌝ }
+{
+    match fill {
+        Fill::Exact => true,
+        Fill::Interp => true,
+        Fill::Cusp => false,
+        Fill::NextCusp360 => false,
+    }
+}
+
+// The same of a row's angle in degrees: what was worked out ahead, where it is this angle's.
+fn rcosd_of(ahead: Ahead, label: Fill, ia: usize, degrees: f32) -> f32
+    requires { ⌜ Foreseen ahead × (tabled label ≡ true → degrees ≡ angOf (ia - 1)) ⌝ }
+    ensures { λ r. ⌜ r ≡ rcosdOf label ia (degrees ⊗ D2R) ⌝ }
+{
+    if is_tabled(label) {
+        if ahead.ia == ia {
+            return ahead.rcosd;
+        }
+    }
+    rcosd(label, ia, degrees * D2R)
+}
+
+// The place of the angle after angle ia; after the last, of the first.
+fn place_after(ia: usize) -> usize
+    ensures { λ r. ⌜ r < 40 ⌝ }
+{
+    if ia < 40 { ia } else { 0 }
+}
+
+// The cosine of the angle after angle ia.
+pub(crate) fn ahead_of(ang: &[f32; 40], ia: usize) -> Ahead
+    requires { ⌜ now ang ≡ angles ⌝ }
+    ensures { λ r. ⌜ Foreseen r ⌝ }
+{
+    let i = place_after(ia);
+    let after = i + 1;
+    Ahead {
+        ia: after,
+        rcosd: rcosd(Fill::Exact, after, ang[i] * D2R),
+    }
+}
+
+// The Martyn correction for a spherical ionosphere.
+fn martyn(freq: f32, fc2: f32, rcosd: f32, ht: f32, fv: f32, hp: f32) -> Corrected
+    ensures { λ r. ⌜ r ≡ correctedOf freq fc2 rcosd ht fv hp ⌝ }
 {
     let xfsq = freq * freq / fc2;
     let xmut = 1.0 - fv * fv / (freq * freq);
     let xhp = (hp - ht) / RZ;
     let sph = xfsq * xmut * xhp * (ht + 2.0 * (RZ + ht) * xhp);
     let high = hp + sph;
-    let phe = angles::asin(rcosd / (RZ + high));
-    let gdr = 2.0 * RZ * (PIO2 - del - phe);
-    Corrected { hp: high, gdr: gdr }
+    Corrected {
+        hp: high,
+        sine: rcosd / (RZ + high),
+    }
+}
+
+// The hop length.
+fn hop(del: f32, sine: f32) -> f32
+    ensures { λ r. ⌜ r ≡ hopOf del sine ⌝ }
+{
+    2.0 * RZ * (PIO2 - del - angles::asin(sine))
+}
+
+// The correction of a row.
+pub(crate) fn correction_of(
+    a: Raw,
+    freq: f32,
+    fc2: f32,
+    fill: Fill,
+    ia: usize,
+    ahead: Ahead,
+) -> Corrected
+    requires { ⌜ Foreseen ahead × (tabled fill ≡ true → a .del ≡ angOf (ia - 1)) ⌝ }
+    ensures { λ r. ⌜ r ≡ correctionOf freq fc2 fill ia a ⌝ }
+{
+    martyn(
+        freq,
+        fc2,
+        rcosd_of(ahead, fill, ia, a.del),
+        a.ht,
+        a.fv,
+        a.hp,
+    )
 }
 
 // The row with its correction.
-pub(crate) fn row_of(a: Raw, mode: u32, freq: f32, fc2: f32, fill: Fill, ia: usize) -> Row
-    ensures { λ r. ⌜ r ≡ rowFrom freq fc2 fill ia mode a ⌝ }
+pub(crate) fn row_of(a: Raw, m: Corrected, mode: u32) -> Row
+    ensures { λ r. ⌜ r ≡ rowBy a m mode ⌝ }
 {
-    let del = a.del * D2R;
-    let m = martyn(freq, fc2, del, rcosd(fill, ia, del), a.ht, a.fv, a.hp);
+    let gdr = hop(a.del * D2R, m.sine);
     Row {
         del: a.del,
         hp: m.hp,
         ht: a.ht,
-        gdr: m.gdr,
+        gdr: gdr,
         fv: a.fv,
         af: a.af,
         mode: mode,

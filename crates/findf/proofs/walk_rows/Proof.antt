@@ -3,34 +3,39 @@ use native.Mathlib.Omega.{arith}
 use borrow.Author.Needs.{needs}
 use Rattle.arith.specs.RunLaws.{Leads, leads-start, leads-more, leads-done}
 use Rattle.findf.specs.Walk.{angles, start}
-use Rattle.findf.specs.Safe.{Safe}
+use Rattle.findf.specs.Safe.{Safe, Foreseen}
 use Rattle.findf.specs.WalkLaws.{μ, Good, good-safe, steps-fine, search-fine, next-layer-fine, next-cusp-fine, filled-fine}
 use Rattle.findf.specs.Findf.{inputsOf, turnOf, walkOf, walkedOf, answer, reflectrixFrom}
 use Rattle.findf.specs.declared.walk.Label.{Label}
+use Rattle.findf.proofs.Fills.{angled}
 use Rattle.findf.proofs.Steps.{searches, next-layers, next-cusps, fills, ends}
 use Rattle.findf.proofs.walk_rows.Statement.{statement}
 use Rattle.findf.proofs.walk_rows.Tie as tie
 
 abbrev Inv-loop : tie.InvT-loop
-Inv-loop delfx₀ hpflx₀ htflx₀ gdflx₀ fvflx₀ afflx₀ imode₀ nang freq amind jfhz fi1 fc2 delpen fvert hprim htrue afac ifob ang f₀ w₀ delfx hpflx htflx gdflx fvflx afflx imode f w =
+Inv-loop delfx₀ hpflx₀ htflx₀ gdflx₀ fvflx₀ afflx₀ imode₀ nang freq amind jfhz fi1 fc2 delpen fvert hprim htrue afac ifob ang ahead₀ f₀ w₀ delfx hpflx htflx gdflx fvflx afflx imode ahead f w =
     let e = inputsOf nang freq amind jfhz fi1 fc2 delpen fvert hprim htrue afac ifob in
     let r₀ = reflectrixFrom delfx₀ hpflx₀ htflx₀ gdflx₀ fvflx₀ afflx₀ imode₀ f₀ in
     let r = reflectrixFrom delfx hpflx htflx gdflx fvflx afflx imode f in
-    Good nang w × Leads (turnOf e) (start, r₀) (μ (w .label) w) (w, r) (walkOf e r₀)
+    Good nang w × (Leads (turnOf e) (start, r₀) (μ (w .label) w) (w, r) (walkOf e r₀) × Foreseen ahead)
 
 abbrev μ-loop : tie.MeasureT-loop
-μ-loop delfx₀ hpflx₀ htflx₀ gdflx₀ fvflx₀ afflx₀ imode₀ nang freq amind jfhz fi1 fc2 delpen fvert hprim htrue afac ifob ang f₀ w₀ delfx hpflx htflx gdflx fvflx afflx imode f w = μ (w .label) w
+μ-loop delfx₀ hpflx₀ htflx₀ gdflx₀ fvflx₀ afflx₀ imode₀ nang freq amind jfhz fi1 fc2 delpen fvert hprim htrue afac ifob ang ahead₀ f₀ w₀ delfx hpflx htflx gdflx fvflx afflx imode ahead f w = μ (w .label) w
+
+ahead-of-requires : tie.Need-ahead-of-requires Inv-loop μ-loop
+unfolding angles
+ahead-of-requires c κs = refl
 
 loop-holds : tie.Need-loop-holds Inv-loop μ-loop
 unfolding walkOf
-loop-holds c = (omega arith, leads-start _ _)
+loop-holds c = (omega arith, (leads-start _ _, c .ahead-of .ensures))
 
 enum-told : tie.Need-enum-told Inv-loop μ-loop
 enum-told c = search needs
 
 search-requires : tie.Need-search-requires Inv-loop μ-loop
 unfolding angles
-search-requires c κs = (refl, (c .before .before .before .before .pre .0, (c .before .before .before .before .pre .1 .0, good-safe (c .before .before .loop .inv .0))))
+search-requires c κs = (refl, (c .before .before .before .before .before .pre .0, (c .before .before .before .before .before .pre .1 .0, good-safe (c .before .before .loop .inv .0))))
 
 loop-less : tie.Need-loop-less Inv-loop μ-loop
 loop-less c = steps-fine (c .before .enum-told .given .1) (c .before .before .before .loop .inv .0) (c .search .ensures) (search-fine _ _ _ _ _) .falls
@@ -38,7 +43,7 @@ loop-less c = steps-fine (c .before .enum-told .given .1) (c .before .before .be
 loop-again : tie.Need-loop-again Inv-loop μ-loop
 loop-again c =
     let f = steps-fine (c .before .enum-told .given .1) (c .before .before .before .loop .inv .0) (c .search .ensures) (search-fine _ _ _ _ _) in
-    (f .good, leads-more (c .before .before .before .loop .inv .1) (searches _ _ _ (c .before .enum-told .given .1) (c .search .ensures)) (f .falls))
+    (f .good, (leads-more (c .before .before .before .loop .inv .1 .0) (searches _ _ _ (c .before .enum-told .given .1) (c .search .ensures)) (f .falls), c .before .before .before .loop .inv .1 .1))
 
 enum-told-2 : tie.Need-enum-told-2 Inv-loop μ-loop
 enum-told-2 c = search needs
@@ -52,7 +57,7 @@ loop-less-2 c = steps-fine (c .before .enum-told2 .given .1) (c .before .before 
 loop-again-2 : tie.Need-loop-again-2 Inv-loop μ-loop
 loop-again-2 c =
     let f = steps-fine (c .before .enum-told2 .given .1) (c .before .before .before .loop .inv .0) (c .next-layer .ensures) (next-layer-fine _ _ _) in
-    (f .good, leads-more (c .before .before .before .loop .inv .1) (next-layers _ _ _ (c .before .enum-told2 .given .1) (c .next-layer .ensures)) (f .falls))
+    (f .good, (leads-more (c .before .before .before .loop .inv .1 .0) (next-layers _ _ _ (c .before .enum-told2 .given .1) (c .next-layer .ensures)) (f .falls), c .before .before .before .loop .inv .1 .1))
 
 enum-told-3 : tie.Need-enum-told-3 Inv-loop μ-loop
 enum-told-3 c = search needs
@@ -66,20 +71,27 @@ loop-less-3 c = steps-fine (c .before .enum-told3 .given .1) (c .before .before 
 loop-again-3 : tie.Need-loop-again-3 Inv-loop μ-loop
 loop-again-3 c =
     let f = steps-fine (c .before .enum-told3 .given .1) (c .before .before .before .loop .inv .0) (c .next-cusp .ensures) (next-cusp-fine _ _ _) in
-    (f .good, leads-more (c .before .before .before .loop .inv .1) (next-cusps _ _ _ (c .before .enum-told3 .given .1) (c .next-cusp .ensures)) (f .falls))
+    (f .good, (leads-more (c .before .before .before .loop .inv .1 .0) (next-cusps _ _ _ (c .before .enum-told3 .given .1) (c .next-cusp .ensures)) (f .falls), c .before .before .before .loop .inv .1 .1))
 
 enum-known-label : tie.Need-enum-known-label Inv-loop μ-loop
 enum-known-label c = search needs
 
 filling-of-requires : tie.Need-filling-of-requires Inv-loop μ-loop
 unfolding angles
-filling-of-requires c κs = (refl, (c .before .before .before .before .before .before .pre .0, (c .before .before .before .before .before .before .pre .1 .1, subst (λ (l : Label). Safe l (c .before .before .before .before .loop .w)) (c .before .before .label .given .1) (good-safe (c .before .before .before .before .loop .inv .0)))))
+filling-of-requires c κs = (refl, (c .before .before .before .before .before .before .before .pre .0, (c .before .before .before .before .before .before .before .pre .1 .1, subst (λ (l : Label). Safe l (c .before .before .before .before .loop .w)) (c .before .before .label .given .1) (good-safe (c .before .before .before .before .loop .inv .0)))))
+
+correction-of-requires : tie.Need-correction-of-requires Inv-loop μ-loop
+correction-of-requires c κs = (c .before .before .before .before .before .before .loop .inv .1 .1, angled _ _ _ _ _ _ _ _ _ _ (c .before .filling-of .ensures .0))
+
+ahead-of-requires-2 : tie.Need-ahead-of-requires-2 Inv-loop μ-loop
+unfolding angles
+ahead-of-requires-2 c κs = refl
 
 row-of-requires : tie.Need-row-of-requires Inv-loop μ-loop
 row-of-requires c κs = search needs
 
 cast-skip-of : tie.Need-cast-skip-of Inv-loop μ-loop
-cast-skip-of c = omega (arith, c .before .before .before .before .before .before .before .loop .inv .0)
+cast-skip-of c = omega (arith, c .before .before .before .before .before .before .before .before .before .loop .inv .0)
 
 skip-of-requires : tie.Need-skip-of-requires Inv-loop μ-loop
 skip-of-requires c κs = search needs
@@ -88,8 +100,8 @@ far-requires : tie.Need-far-requires Inv-loop μ-loop
 far-requires c κs = search needs
 
 -- the bounds of the walk at the fill at hand
-bounds : (c : tie.After-far Inv-loop μ-loop) → Good (c .before .before .before .before .before .before .before .before .before .before .before .args .nang) (c .before .before .before .before .before .before .before .before .before .loop .w)
-bounds c = c .before .before .before .before .before .before .before .before .before .loop .inv .0
+bounds : (c : tie.After-far Inv-loop μ-loop) → Good (c .before .before .before .before .before .before .before .before .before .before .before .before .before .before .args .nang) (c .before .before .before .before .before .before .before .before .before .before .before .loop .w)
+bounds c = c .before .before .before .before .before .before .before .before .before .before .before .loop .inv .0
 
 mul-delfx : tie.Need-mul-delfx Inv-loop μ-loop
 mul-delfx c = omega (arith, bounds c)
@@ -137,23 +149,23 @@ add-count : tie.Need-add-count Inv-loop μ-loop
 add-count c = omega (arith, bounds c)
 
 filled-requires : tie.Need-filled-requires Inv-loop μ-loop
-filled-requires c κs = (c .before .before .before .before .filling-of .ensures .1 .1, subst (λ (l : Label). Safe l (c .before .before .before .before .before .before .before .before .before .loop .w)) (c .before .before .before .before .before .before .before .label .given .1) (good-safe (bounds c)))
+filled-requires c κs = (c .before .before .before .before .before .before .filling-of .ensures .1 .1, subst (λ (l : Label). Safe l (c .before .before .before .before .before .before .before .before .before .before .before .loop .w)) (c .before .before .before .before .before .before .before .before .before .label .given .1) (good-safe (bounds c)))
 
 loop-less-4 : tie.Need-loop-less-4 Inv-loop μ-loop
-loop-less-4 c = steps-fine (c .before .before .before .before .before .before .before .before .label .given .1) (c .before .before .before .before .before .before .before .before .before .before .loop .inv .0) (c .filled .ensures) (filled-fine _ _ _) .falls
+loop-less-4 c = steps-fine (c .before .before .before .before .before .before .before .before .before .before .label .given .1) (c .before .before .before .before .before .before .before .before .before .before .before .before .loop .inv .0) (c .filled .ensures) (filled-fine _ _ _) .falls
 
 loop-again-4 : tie.Need-loop-again-4 Inv-loop μ-loop
 loop-again-4 c =
-    let f = steps-fine (c .before .before .before .before .before .before .before .before .label .given .1) (c .before .before .before .before .before .before .before .before .before .before .loop .inv .0) (c .filled .ensures) (filled-fine _ _ _) in
-    let step = fills _ _ _ (c .before .before .before .before .before .before .before .before .label .given .1) (c .before .before .before .before .before .filling-of .ensures) (c .before .before .before .row-of .ensures) (c .before .before .skip-of .ensures) (c .before .far .ensures) (c .filled .ensures) in
-    (f .good, leads-more (c .before .before .before .before .before .before .before .before .before .before .loop .inv .1) step (f .falls))
+    let f = steps-fine (c .before .before .before .before .before .before .before .before .before .before .label .given .1) (c .before .before .before .before .before .before .before .before .before .before .before .before .loop .inv .0) (c .filled .ensures) (filled-fine _ _ _) in
+    let step = fills _ _ _ (c .before .before .before .before .before .before .before .before .before .before .label .given .1) (c .before .before .before .before .before .before .before .filling-of .ensures) (c .before .before .before .before .before .correction-of .ensures) (c .before .before .before .row-of .ensures) (c .before .before .skip-of .ensures) (c .before .far .ensures) (c .filled .ensures) in
+    (f .good, (leads-more (c .before .before .before .before .before .before .before .before .before .before .before .before .loop .inv .1 .0) step (f .falls), c .before .before .before .before .ahead-of2 .ensures))
 
 enum-told-4 : tie.Need-enum-told-4 Inv-loop μ-loop
 enum-told-4 c = search needs
 
 returns : tie.Need-returns Inv-loop μ-loop
 unfolding walkedOf
-returns c = ap answer (leads-done (c .before .before .loop .inv .1) (ends _ _ _ (c .enum-told4 .given .1)) (omega arith))
+returns c = ap answer (leads-done (c .before .before .loop .inv .1 .0) (ends _ _ _ (c .enum-told4 .given .1)) (omega arith))
 
 pub walk-rows-spec : {M : Type 1} → statement M
 walk-rows-spec =
@@ -161,6 +173,7 @@ walk-rows-spec =
     (tie.spec
     Inv-loop
     μ-loop
+    ahead-of-requires
     loop-holds
     enum-told
     search-requires
@@ -176,6 +189,8 @@ walk-rows-spec =
     loop-again-3
     enum-known-label
     filling-of-requires
+    correction-of-requires
+    ahead-of-requires-2
     row-of-requires
     cast-skip-of
     skip-of-requires
