@@ -33,17 +33,20 @@ fn rows_within(fvert: &[f32; 30], hprim: &[f32; 30], htrue: &[f32; 30], afac: &[
     ok
 }
 
-// All 1,200, without an early exit: no branch in the loop.
+// All 1,200, without an early exit: no branch in the loop. The bits of all of them together tell whether one is below 0.
 fn entries_within(ifob: &[i32; 1200]) -> bool
     ensures { λ r. ⌜ r ≡ entriesWithin (now (ifob .entry)) 1200 ⌝ }
 {
-    let mut ok = true;
+    let mut bits = 0i32;
+    let mut above = false;
     let mut i = 0usize;
     while i < 1200 {
-        ok = ok & limits::ifob_within(ifob[i]);
+        let entry = ifob[i];
+        bits = bits | entry;
+        above = above | (entry > limits::IFOB_MAX);
         i += 1;
     }
-    ok
+    (0 <= bits) & !above
 }
 
 // The number of a broken limit, else what the later limits give.

@@ -28,6 +28,9 @@ pub const REFUSAL_COUNT: u32 = 12;
 
 pub const REFUSAL_LAYER: u32 = 13;
 
+// The largest entry of ifob.
+pub const IFOB_MAX: i32 = 99999;
+
 // Ends included; NaN is within no range.
 fn within(lo: f32, hi: f32, x: f32) -> bool
     ensures { λ r. ⌜ r ≡ meant.within lo hi x ⌝ }
@@ -99,7 +102,7 @@ pub fn afac_within(afac: f32) -> bool
 pub fn ifob_within(entry: i32) -> bool
     ensures { λ r. ⌜ r ≡ ifobWithin entry ⌝ }
 {
-    (0 <= entry) & (entry <= 99999)
+    (0 <= entry) & (entry <= IFOB_MAX)
 }
 
 pub fn slots_within(ist: usize, lst: usize) -> bool

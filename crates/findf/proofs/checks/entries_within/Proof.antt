@@ -1,31 +1,50 @@
-use mathlib.Core.Path.{_≡_, refl}
-use Prim.Native.Nat.{_≤_, _-_}
+use mathlib.Core.Path.{_≡_, refl, sym}
+use mathlib.Core.Bool.{Bool, true, false, _&&_, _||_, not, and-false}
+use Prim.Native.Nat.{ℕ, _≤_, _-_}
 use native.Mathlib.Nat.{le-antisymm}
 use native.Mathlib.Numerals.{add-one}
+use lib.ListN.{getD}
+use lib.Bits.{bitOr}
+use lib.IntN.{ℤ, pos}
+use lib.Signed.{leZ, ltZ}
+use mir.Syntax.{w32}
+use mir.Val.{SFits, toZ, ofZ}
 use mir.Facts.{toZ-ofZ}
 use borrow.Author.Needs.{needs, sfits-of}
+use Rattle.limits.specs.Limits.{ifobWithin}
 use Rattle.findf.specs.Checks.{entriesWithin}
+use Rattle.findf.proofs.Signs.{or-sign, not-above}
 use Rattle.findf.proofs.checks.entries_within.Statement.{statement}
 use Rattle.findf.proofs.checks.entries_within.Tie as tie
 
+-- what the bits of the entries so far and the test of their sizes tell
+abbrev kept : ℕ → Bool → Bool
+kept bits above = leZ (pos 0) (toZ w32 bits) && not above
+
+regroup : (s t p q : Bool) → ((s && not t) && (p && not q)) ≡ ((s && p) && not (t || q))
+regroup true true p q = sym (and-false p)
+regroup true false p q = refl
+regroup false t p q = refl
+
+one-more : (bits : ℕ) (above : Bool) (x : ℤ) → SFits w32 x → (kept bits above && ifobWithin x) ≡ kept (bitOr bits (ofZ w32 x)) (above || ltZ (pos 99999) (toZ w32 (ofZ w32 x)))
+one-more bits above x h =
+    rw (or-sign w32, toZ-ofZ h, not-above) (regroup (leZ (pos 0) (toZ w32 bits)) above (leZ (pos 0) x) (ltZ (pos 99999) x))
+
 abbrev Inv-loop : tie.InvT-loop
-Inv-loop ifob ok₀ i₀ ok i = (i ≤ 1200) × (ok ≡ entriesWithin ifob i)
+Inv-loop ifob bits₀ above₀ i₀ bits above i = (i ≤ 1200) × (entriesWithin ifob i ≡ kept bits above)
 
 abbrev μ-loop : tie.MeasureT-loop
-μ-loop ifob ok₀ i₀ ok i = 1200 - i
+μ-loop ifob bits₀ above₀ i₀ bits above i = 1200 - i
 
 loop-holds : tie.Need-loop-holds Inv-loop μ-loop
 unfolding entriesWithin
 loop-holds c = (search needs, refl)
 
-mul-ifob-within : tie.Need-mul-ifob-within Inv-loop μ-loop
-mul-ifob-within c = search needs
+mul-entry : tie.Need-mul-entry Inv-loop μ-loop
+mul-entry c = search needs
 
-element-copy-out-ifob-within : tie.Need-element-copy-out-ifob-within Inv-loop μ-loop
-element-copy-out-ifob-within c = search needs
-
-ifob-within-requires : tie.Need-ifob-within-requires Inv-loop μ-loop
-ifob-within-requires c κs = search needs
+element-copy-out-entry : tie.Need-element-copy-out-entry Inv-loop μ-loop
+element-copy-out-entry c = search needs
 
 add-i : tie.Need-add-i Inv-loop μ-loop
 add-i c = search needs
@@ -36,11 +55,11 @@ loop-less c = search needs
 loop-again : tie.Need-loop-again Inv-loop μ-loop
 unfolding entriesWithin
 loop-again c =
-    let l = c .before .before .before .loop in
-    (search needs, rw (add-one, l .inv .1, c .ifob-within .ensures, toZ-ofZ (sfits-of (c .before .ifob-within-arg .given))))
+    let l = c .before .before .loop in
+    (search needs, rw (add-one, l .inv .1) (one-more (l .bits) (l .above) (getD (c .before .before .before .args .ifob .now) (l .i) (pos 0)) (sfits-of (c .entry .given))))
 
 returns : tie.Need-returns Inv-loop μ-loop
-returns c = rw (le-antisymm (c .loop-test .left) (c .before .loop .inv .0)) (c .before .loop .inv .1)
+returns c = rw (le-antisymm (c .loop-test .left) (c .before .loop .inv .0)) (sym (c .before .loop .inv .1))
 
 pub entries-within-spec : {M : Type 1} → statement M
 entries-within-spec =
@@ -49,9 +68,8 @@ entries-within-spec =
     Inv-loop
     μ-loop
     loop-holds
-    mul-ifob-within
-    element-copy-out-ifob-within
-    ifob-within-requires
+    mul-entry
+    element-copy-out-entry
     add-i
     loop-less
     loop-again
