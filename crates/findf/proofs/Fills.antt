@@ -1,13 +1,13 @@
 -- The numbers of `Safe`, and the row's angle, once it is known which row is filled.
 use mathlib.Core.Path.{_≡_, ap}
-use mathlib.Core.Bool.{true, false≢true}
 use mathlib.Core.List.{List}
-use Prim.Native.Nat.{ℕ, _-_, _≤_}
+use Prim.Native.Nat.{ℕ, _≤_}
+use native.Mathlib.Nat.{lt-irrefl}
 use lib.IntN.{ℤ}
 use lib.Ieee.{Float}
 use native.Mathlib.Omega.{arith}
-use Rattle.findf.specs.Walk.{angOf, backOf}
-use Rattle.findf.specs.Safe.{takes, pairs, follows, tabled}
+use Rattle.findf.specs.Walk.{backOf}
+use Rattle.findf.specs.Safe.{takes, pairs, follows, tabledOf, Angled}
 use Rattle.findf.specs.Rows.{rawOf}
 use Rattle.findf.specs.declared.walk.Walk.{Walk}
 use Rattle.findf.specs.declared.walk.Label.the-variants as L
@@ -26,11 +26,11 @@ back-takes NextCusp360 = omega arith
 pub asks : {f g : Fill} → f ≡ g → (takes (L.Fill f) ≡ takes (L.Fill g)) × ((pairs (L.Fill f) ≡ pairs (L.Fill g)) × (follows (L.Fill f) ≡ follows (L.Fill g)))
 asks e = (ap (λ (f : Fill). takes (L.Fill f)) e, (ap (λ (f : Fill). pairs (L.Fill f)) e, ap (λ (f : Fill). follows (L.Fill f)) e))
 
--- a row that is said to have one of the table's angles has it
+-- a row that has a number in the table has that angle
 pub angled : (fill : Fill) (fvert hprim htrue afac : List Float) (ifob : List ℤ) (delpen delfx : List Float) (jfhz : ℕ) (w : Walk) {a : Raw}
-    → a ≡ rawOf fvert hprim htrue afac ifob delpen delfx jfhz fill w → tabled fill ≡ true → a .del ≡ angOf (w .ia - 1)
+    → a ≡ rawOf fvert hprim htrue afac ifob delpen delfx jfhz fill w → Angled (tabledOf fill (w .ia)) (a .del)
 unfolding rawOf
 angled Exact fvert hprim htrue afac ifob delpen delfx jfhz w a k = ap (λ (b : Raw). b .del) a
 angled Interp fvert hprim htrue afac ifob delpen delfx jfhz w a k = ap (λ (b : Raw). b .del) a
-angled Cusp fvert hprim htrue afac ifob delpen delfx jfhz w a k = absurd (false≢true k)
-angled NextCusp360 fvert hprim htrue afac ifob delpen delfx jfhz w a k = absurd (false≢true k)
+angled Cusp fvert hprim htrue afac ifob delpen delfx jfhz w a k = absurd (lt-irrefl 0 k)
+angled NextCusp360 fvert hprim htrue afac ifob delpen delfx jfhz w a k = absurd (lt-irrefl 0 k)

@@ -1,7 +1,7 @@
 -- What a state must satisfy for the code of its label to stay inside the tables: ranges alone, which a program can test. And what a cosine worked out ahead of its row must be.
 use Prim.Native.Nat.{ℕ, _+_, _-_, _≤_}
 use mathlib.Core.Path.{_≡_}
-use mathlib.Core.Bool.{Bool, true, false}
+use lib.Ieee.{Float}
 use Rattle.arith.specs.Floats.{_⊗_, RZ, D2R}
 use Rattle.angles.specs.SinCos.{cosOf}
 use Rattle.findf.specs.Walk.{angOf}
@@ -58,13 +58,17 @@ pub record Safe (l : Label) (w : Walk) : Type 0 where
   pub rows-cap : w .rows + due l ≤ 45
   pub looks-cap : w .looks ≤ 100000
 
--- whether a fill's row has one of the table's angles
-abbrev pub tabled : Kind → Bool
-tabled Exact = true
-tabled Interp = true
-tabled Cusp = false
-tabled NextCusp360 = false
+-- the number of a row's angle in the table, 0 where it is none of the table's
+abbrev pub tabledOf : Kind → ℕ → ℕ
+tabledOf Exact ia = ia
+tabledOf Interp ia = ia
+tabledOf Cusp ia = 0
+tabledOf NextCusp360 ia = 0
 
--- what was worked out ahead is RZ times the cosine of its angle
+-- an angle, in degrees, that has number n in the table, if n is not 0
+abbrev pub Angled : ℕ → Float → Type 0
+Angled n del = 1 ≤ n → del ≡ angOf (n - 1)
+
+-- what was worked out ahead is RZ times the cosine of an angle of the table
 abbrev pub Foreseen : Ahead → Type 0
-Foreseen a = a .rcosd ≡ RZ ⊗ cosOf (angOf (a .ia - 1) ⊗ D2R)
+Foreseen a = (1 ≤ a .ia) × (a .rcosd ≡ RZ ⊗ cosOf (angOf (a .ia - 1) ⊗ D2R))

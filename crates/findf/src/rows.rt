@@ -3,11 +3,10 @@
 ghost use mathlib.Core.Path.{_≡_};
 ghost use Prim.Native.Nat.{_+_, _-_, _*_, _≤_, _<_};
 ghost use Rattle.findf.specs.Look.{Entries};
-ghost use mathlib.Core.Bool.{true};
-ghost use Rattle.findf.specs.Walk.{angles, angOf, backOf, afterOf};
+ghost use Rattle.findf.specs.Walk.{angles, backOf, afterOf};
 ghost use Rattle.findf.specs.Rows.{gapOf, slopeOf, rawAt, rawBetween, nextModeOf, modeOf, rawOf, rcosdOf, correctedOf, hopOf, correctionOf, rowBy, skipOf, farOf};
 ghost use Rattle.arith.specs.Floats.{_⊗_, D2R};
-ghost use Rattle.findf.specs.Safe.{Safe, tabled, Foreseen};
+ghost use Rattle.findf.specs.Safe.{Safe, tabledOf, Angled, Foreseen};
 use super::look;
 use super::walk::Fill;
 use super::walk::Label;
@@ -205,27 +204,25 @@ fn rcosd(label: Fill, ia: usize, del: f32) -> f32
     RZ * angles::cos(del)
 }
 
-// Whether a row has one of the table's angles.
-fn is_tabled(fill: Fill) -> bool
-    ensures { λ r. ⌜ r ≡ tabled fill ⌝ }
+// The number of a row's angle in the table, 0 where it is none of the table's.
+fn tabled(fill: Fill, ia: usize) -> usize
+    ensures { λ r. ⌜ r ≡ tabledOf fill ia ⌝ }
 {
     match fill {
-        Fill::Exact => true,
-        Fill::Interp => true,
-        Fill::Cusp => false,
-        Fill::NextCusp360 => false,
+        Fill::Exact => ia,
+        Fill::Interp => ia,
+        Fill::Cusp => 0,
+        Fill::NextCusp360 => 0,
     }
 }
 
 // The same of a row's angle in degrees: what was worked out ahead, where it is this angle's.
 fn rcosd_of(ahead: Ahead, label: Fill, ia: usize, degrees: f32) -> f32
-    requires { ⌜ Foreseen ahead × (tabled label ≡ true → degrees ≡ angOf (ia - 1)) ⌝ }
+    requires { ⌜ Foreseen ahead × Angled (tabledOf label ia) degrees ⌝ }
     ensures { λ r. ⌜ r ≡ rcosdOf label ia (degrees ⊗ D2R) ⌝ }
 {
-    if is_tabled(label) {
-        if ahead.ia == ia {
-            return ahead.rcosd;
-        }
+    if tabled(label, ia) == ahead.ia {
+        return ahead.rcosd;
     }
     rcosd(label, ia, degrees * D2R)
 }
@@ -281,7 +278,7 @@ pub(crate) fn correction_of(
     ia: usize,
     ahead: Ahead,
 ) -> Corrected
-    requires { ⌜ Foreseen ahead × (tabled fill ≡ true → a .del ≡ angOf (ia - 1)) ⌝ }
+    requires { ⌜ Foreseen ahead × Angled (tabledOf fill ia) (a .del) ⌝ }
     ensures { λ r. ⌜ r ≡ correctionOf freq fc2 fill ia a ⌝ }
 {
     martyn(

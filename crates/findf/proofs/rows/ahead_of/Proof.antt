@@ -22,7 +22,7 @@ rcosd-requires c κs = search needs
 
 returns : tie.Need-returns
 unfolding rcosdOf angOf
-returns c = simp (add-sub-cancel (c .before .before .place-after .result) 1, ← c .before .before .before .pre) (c .rcosd .ensures)
+returns c = (search needs, simp (add-sub-cancel (c .before .before .place-after .result) 1, ← c .before .before .before .pre) (c .rcosd .ensures))
 
 pub ahead-of-spec : {M : Type 1} → statement M
 ahead-of-spec = tie.close (tie.spec place-after-requires add-after mul-rcosd element-copy-out-rcosd rcosd-requires returns)

@@ -1,14 +1,20 @@
+use mathlib.Core.Path.{sym, subst, _∙_}
+use Prim.Native.Nat.{ℕ}
 use borrow.Author.Needs.{needs}
 use Rattle.findf.specs.Rows.{rcosdOf}
+use Rattle.findf.specs.Safe.{Angled}
 use Rattle.findf.proofs.rows.rcosd_of.Statement.{statement}
 use Rattle.findf.proofs.rows.rcosd_of.Tie as tie
 
-is-tabled-requires : tie.Need-is-tabled-requires
-is-tabled-requires c κs = search needs
+tabled-requires : tie.Need-tabled-requires
+tabled-requires c κs = search needs
 
 returns : tie.Need-returns
 unfolding rcosdOf
-returns c = rw (c .before .before .before .before .pre .1 (search needs), ← c .if2 .taken) (c .before .before .before .before .pre .0)
+returns c =
+    let a = c .before .before .before in
+    let same = sym (c .before .before .tabled .ensures) ∙ c .if1 .taken in
+    rw (subst (λ (n : ℕ). Angled n (a .args .degrees)) same (a .pre .1) (a .pre .0 .0)) (a .pre .0 .1)
 
 rcosd-requires : tie.Need-rcosd-requires
 rcosd-requires c κs = search needs
@@ -17,4 +23,4 @@ returns-2 : tie.Need-returns-2
 returns-2 c = search needs
 
 pub rcosd-of-spec : {M : Type 1} → statement M
-rcosd-of-spec = tie.close (tie.spec is-tabled-requires returns rcosd-requires returns-2)
+rcosd-of-spec = tie.close (tie.spec tabled-requires returns rcosd-requires returns-2)
