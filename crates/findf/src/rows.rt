@@ -227,7 +227,7 @@ fn rcosd_of(ahead: Ahead, label: Fill, ia: usize, degrees: f32) -> f32
     rcosd(label, ia, degrees * D2R)
 }
 
-// The place of the angle after angle ia; after the last, of the first.
+// The place of the angle after angle ia; after the last, of the first. No more is promised: another place costs time and changes no answer.
 fn place_after(ia: usize) -> usize
     ensures { λ r. ⌜ r < 40 ⌝ }
 {
@@ -247,7 +247,7 @@ pub(crate) fn ahead_of(ang: &[f32; 40], ia: usize) -> Ahead
     }
 }
 
-// The Martyn correction for a spherical ionosphere.
+// The Martyn correction for a spherical ionosphere: it takes rcosd's answer.
 fn martyn(freq: f32, fc2: f32, rcosd: f32, ht: f32, fv: f32, hp: f32) -> Corrected
     ensures { λ r. ⌜ r ≡ correctedOf freq fc2 rcosd ht fv hp ⌝ }
 {
