@@ -5,9 +5,11 @@ use Prim.Native.Nat.{ℕ, _≤_}
 use native.Mathlib.Nat.{lt-irrefl}
 use lib.IntN.{ℤ}
 use lib.Ieee.{Float}
+use Rattle.arith.specs.Floats.{_⊗_, D2R}
 use native.Mathlib.Omega.{arith}
 use Rattle.findf.specs.Walk.{backOf}
-use Rattle.findf.specs.Safe.{takes, pairs, follows, tabledOf, Angled}
+use Rattle.findf.specs.Safe.{takes, interpolates, follows}
+use Rattle.findf.specs.Ahead.{tabledOf, Angled}
 use Rattle.findf.specs.Rows.{rawOf}
 use Rattle.findf.specs.declared.walk.Walk.{Walk}
 use Rattle.findf.specs.declared.walk.Label.the-variants as L
@@ -23,14 +25,14 @@ back-takes Cusp = omega arith
 back-takes NextCusp360 = omega arith
 
 -- what the numbers of a fill are, once it is known
-pub asks : {f g : Fill} → f ≡ g → (takes (L.Fill f) ≡ takes (L.Fill g)) × ((pairs (L.Fill f) ≡ pairs (L.Fill g)) × (follows (L.Fill f) ≡ follows (L.Fill g)))
-asks e = (ap (λ (f : Fill). takes (L.Fill f)) e, (ap (λ (f : Fill). pairs (L.Fill f)) e, ap (λ (f : Fill). follows (L.Fill f)) e))
+pub asks : {f g : Fill} → f ≡ g → (takes (L.Fill f) ≡ takes (L.Fill g)) × ((interpolates (L.Fill f) ≡ interpolates (L.Fill g)) × (follows (L.Fill f) ≡ follows (L.Fill g)))
+asks e = (ap (λ (f : Fill). takes (L.Fill f)) e, (ap (λ (f : Fill). interpolates (L.Fill f)) e, ap (λ (f : Fill). follows (L.Fill f)) e))
 
--- a row that has a number in the table has that angle
+-- a row that has a number in ANG has that angle
 pub angled : (fill : Fill) (fvert hprim htrue afac : List Float) (ifob : List ℤ) (delpen delfx : List Float) (jfhz : ℕ) (w : Walk) {a : Raw}
-    → a ≡ rawOf fvert hprim htrue afac ifob delpen delfx jfhz fill w → Angled (tabledOf fill (w .ia)) (a .del)
+    → w .ia ≤ 40 → a ≡ rawOf fvert hprim htrue afac ifob delpen delfx jfhz fill w → Angled (tabledOf fill (w .ia)) (a .del ⊗ D2R)
 unfolding rawOf
-angled Exact fvert hprim htrue afac ifob delpen delfx jfhz w a k = ap (λ (b : Raw). b .del) a
-angled Interp fvert hprim htrue afac ifob delpen delfx jfhz w a k = ap (λ (b : Raw). b .del) a
-angled Cusp fvert hprim htrue afac ifob delpen delfx jfhz w a k = absurd (lt-irrefl 0 k)
-angled NextCusp360 fvert hprim htrue afac ifob delpen delfx jfhz w a k = absurd (lt-irrefl 0 k)
+angled Exact fvert hprim htrue afac ifob delpen delfx jfhz w h a k = (h, ap (λ (b : Raw). b .del ⊗ D2R) a)
+angled Interp fvert hprim htrue afac ifob delpen delfx jfhz w h a k = (h, ap (λ (b : Raw). b .del ⊗ D2R) a)
+angled Cusp fvert hprim htrue afac ifob delpen delfx jfhz w h a k = absurd (lt-irrefl 0 k)
+angled NextCusp360 fvert hprim htrue afac ifob delpen delfx jfhz w h a k = absurd (lt-irrefl 0 k)

@@ -4,6 +4,7 @@ pub mod LookLaws
 pub mod Walk
 pub mod Safe
 pub mod Rows
+pub mod Ahead
 pub mod Checks
 pub mod Findf
 pub mod WalkLaws

@@ -10,7 +10,7 @@ use Rattle.arith.specs.Run.{Next, count}
 use Rattle.arith.specs.RunLaws.{Kept, run-keeps, Lessens, Raised, run-same, run-counts}
 use Rattle.arith.specs.Run as Run
 use Rattle.findf.specs.Look.{looked, lookBy, lookOf, looksOf}
-use Rattle.findf.specs.Safe.{pairs}
+use Rattle.findf.specs.Safe.{interpolates}
 use Rattle.findf.specs.declared.look.Looked.{Looked}
 use Rattle.findf.specs.declared.walk.Label.{Label}
 use Rattle.findf.specs.declared.walk.Label.the-variants.{Search, NextLayer, Fill, NextCusp, Done}
@@ -31,7 +31,7 @@ Seen Done = ⊥
 pub record Looks (ihigh ih looks : ℕ) (l : Looked) : Type 0 where
   pub seen : Seen (l .label)
   pub from : ih ≤ l .ih
-  pub to : l .ih + pairs (l .label) ≤ ihigh
+  pub to : l .ih + interpolates (l .label) ≤ ihigh
   pub few : l .looks + ih ≤ looks + l .ih + 1
 
 module _ (ifob : List ℤ) (jfhz column ilow ihigh ih looks : ℕ) (h : ih ≤ ihigh) where

@@ -85,15 +85,15 @@ highOf freq fc2 ht fv hp =
     let xhp = (hp ⊖ ht) ⊘ RZ in
     hp ⊕ (((xfsq ⊗ xmut) ⊗ xhp) ⊗ (ht ⊕ ((2·0 ⊗ (RZ ⊕ ht)) ⊗ xhp)))
 
--- "Each row then gets the height correction and hop length of the source": the height, and the argument of line 872's arcsine
+-- "Each row then gets the height correction and hop length of the source": the height, and the sine of line 872's phe
 unfoldable pub correctedOf : Float → Float → Float → Float → Float → Float → Corrected
 correctedOf freq fc2 rcosd ht fv hp =
     let high = highOf freq fc2 ht fv hp in
-    record { hp = high; sine = rcosd ⊘ (RZ ⊕ high) }
+    record { hp = high; sphe = rcosd ⊘ (RZ ⊕ high) }
 
 -- the hop length (lines 872 to 873)
 unfoldable pub hopOf : Float → Float → Float
-hopOf del sine = (2·0 ⊗ RZ) ⊗ ((PIO2 ⊖ del) ⊖ asinOf sine)
+hopOf del sphe = (2·0 ⊗ RZ) ⊗ ((PIO2 ⊖ del) ⊖ asinOf sphe)
 
 -- line 864: the row's angle in radians
 abbrev pub correctionOf : Float → Float → Fill → ℕ → Raw → Corrected
@@ -102,7 +102,7 @@ correctionOf freq fc2 fill ia a = correctedOf freq fc2 (rcosdOf fill ia (a .del 
 -- the row as it is written
 abbrev pub rowBy : Raw → Corrected → ℕ → Row
 rowBy a m mode =
-    record { del = a .del; hp = m .hp; ht = a .ht; gdr = hopOf (a .del ⊗ D2R) (m .sine); fv = a .fv; af = a .af; mode = mode }
+    record { del = a .del; hp = m .hp; ht = a .ht; gdr = hopOf (a .del ⊗ D2R) (m .sphe); fv = a .fv; af = a .af; mode = mode }
 
 abbrev pub rowFrom : Float → Float → Fill → ℕ → ℕ → Raw → Row
 rowFrom freq fc2 fill ia mode a = rowBy a (correctionOf freq fc2 fill ia a) mode

@@ -1,15 +1,8 @@
--- What a state must satisfy for the code of its label to stay inside the tables: ranges alone, which a program can test. And what a cosine worked out ahead of its row must be.
-use Prim.Native.Nat.{ℕ, _+_, _-_, _≤_}
-use mathlib.Core.Path.{_≡_}
-use lib.Ieee.{Float}
-use Rattle.arith.specs.Floats.{_⊗_, RZ, D2R}
-use Rattle.angles.specs.SinCos.{cosOf}
-use Rattle.findf.specs.Walk.{angOf}
-use Rattle.findf.specs.declared.rows.Ahead.{Ahead}
+-- What a state must satisfy for the code of its label to stay inside the tables: ranges alone, which a program can test.
+use Prim.Native.Nat.{ℕ, _+_, _≤_}
 use Rattle.findf.specs.declared.walk.Walk.{Walk}
 use Rattle.findf.specs.declared.walk.Label.{Label}
 use Rattle.findf.specs.declared.walk.Label.the-variants.{Search, NextLayer, Fill, NextCusp, Done}
-use Rattle.findf.specs.declared.walk.Fill.{Fill as Kind}
 use Rattle.findf.specs.declared.walk.Fill.the-variants.{Exact, Interp, Cusp, NextCusp360}
 
 -- a number for each label: the four fills, then Search, NextLayer, NextCusp and Done
@@ -28,8 +21,8 @@ abbrev pub takes : Label → ℕ
 takes = byLabel 1 1 1 0 0 0 0 0
 
 -- 1 where the row after ih is read too
-abbrev pub pairs : Label → ℕ
-pairs = byLabel 0 1 0 0 0 0 0 0
+abbrev pub interpolates : Label → ℕ
+interpolates = byLabel 0 1 0 0 0 0 0 0
 
 -- 1 where the row after ihigh and the row written last are read
 abbrev pub follows : Label → ℕ
@@ -50,25 +43,10 @@ pub record Safe (l : Label) (w : Walk) : Type 0 where
   pub il-low : 1 ≤ w .il
   pub il-cap : w .il ≤ 3
   pub ih-low : 1 ≤ w .ih
-  pub ih-cap : w .ih + pairs l ≤ w .ihigh
+  pub ih-cap : w .ih + interpolates l ≤ w .ihigh
   pub ihigh-cap : w .ihigh + follows l ≤ 30
   pub ilow-low : 1 ≤ w .ilow
   pub ilow-cap : w .ilow ≤ 30
   pub rows-low : follows l ≤ w .rows
   pub rows-cap : w .rows + due l ≤ 45
   pub looks-cap : w .looks ≤ 100000
-
--- the number of a row's angle in the table, 0 where it is none of the table's
-abbrev pub tabledOf : Kind → ℕ → ℕ
-tabledOf Exact ia = ia
-tabledOf Interp ia = ia
-tabledOf Cusp ia = 0
-tabledOf NextCusp360 ia = 0
-
--- an angle, in degrees, that has number n in the table, if n is not 0
-abbrev pub Angled : ℕ → Float → Type 0
-Angled n del = 1 ≤ n → del ≡ angOf (n - 1)
-
--- what was worked out ahead is RZ times the cosine of an angle of the table
-abbrev pub Foreseen : Ahead → Type 0
-Foreseen a = (1 ≤ a .ia) × (a .rcosd ≡ RZ ⊗ cosOf (angOf (a .ia - 1) ⊗ D2R))

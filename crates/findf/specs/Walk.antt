@@ -21,8 +21,8 @@ abbrev pub 89·99 : Float
 89·99 = f32 0x42b3_fae1
 
 -- ANG, ionogram.rs lines 23 to 28: the 40 take-off angles
-unfoldable pub angles : List Float
-angles =
+unfoldable pub ANG : List Float
+ANG =
     f32 0x0000_0000 ∷ f32 0x3f00_0000 ∷ f32 0x3f80_0000 ∷ f32 0x4000_0000 ∷ f32 0x4040_0000 ∷ f32 0x4080_0000 ∷ f32 0x40a0_0000 ∷ f32 0x40c0_0000
     ∷ f32 0x4100_0000 ∷ f32 0x4120_0000 ∷ f32 0x4140_0000 ∷ f32 0x4160_0000 ∷ f32 0x4180_0000 ∷ f32 0x4190_0000 ∷ f32 0x41a0_0000 ∷ f32 0x41b0_0000
     ∷ f32 0x41c0_0000 ∷ f32 0x41d0_0000 ∷ f32 0x41e0_0000 ∷ f32 0x41f0_0000 ∷ f32 0x4200_0000 ∷ f32 0x4208_0000 ∷ f32 0x4210_0000 ∷ f32 0x4218_0000
@@ -31,7 +31,7 @@ angles =
 
 -- ANG(i + 1)
 unfoldable pub angOf : ℕ → Float
-angOf i = getD angles i nan
+angOf i = getD ANG i nan
 
 -- another label, and nothing else
 abbrev pub withLabel : Walk → Label → Walk

@@ -11,7 +11,7 @@ use lib.Ieee.{Float}
 use borrow.Author.Tests.{leb-false, eqb-true}
 use Rattle.findf.specs.LookLaws.{Seen, Looks, looks-leave}
 use Rattle.findf.specs.Walk.{searchBy, searchOf, nextLayerBy, nextLayerOf, nextCuspBy, nextCuspOf, backOf, filledBy, filledOf, doneAt, start}
-use Rattle.findf.specs.Safe.{byLabel, takes, pairs, follows, due, Safe}
+use Rattle.findf.specs.Safe.{byLabel, takes, interpolates, follows, due, Safe}
 use Rattle.findf.specs.Findf.{Inputs, stepBy}
 use Rattle.findf.specs.declared.look.Looked.{Looked}
 use Rattle.findf.specs.declared.walk.Walk.{Walk}
@@ -59,7 +59,7 @@ pub record Bounds (nang : ℕ) (l : Label) (w : Walk) : Type 0 where
   pub il-low : 1 ≤ w .il
   pub il-cap : w .il + follows l ≤ 3
   pub ih-low : 1 ≤ w .ih
-  pub ih-cap : w .ih + pairs l ≤ w .ihigh
+  pub ih-cap : w .ih + interpolates l ≤ w .ihigh
   pub high : w .ihigh ≤ 10 * w .il
   pub low-low : 1 ≤ w .ilow
   pub low-cap : w .ilow ≤ 30

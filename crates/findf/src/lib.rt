@@ -1,7 +1,7 @@
 // Translated from hfcast-engine (commit bf34e8f9f3), src/voacap/modes.rs lines 130 to 153 and 670 to 904, and changed.
 // findf: the reflectrix of one frequency in one area, into lent columns or by value.
 ghost use mathlib.Core.Path.{_≡_};
-ghost use Prim.Native.Nat.{_+_, _-_, _*_, _≤_};
+ghost use Prim.Native.Nat.{_≤_};
 ghost use mathlib.Core.Bool.{true};
 ghost use Rattle.limits.specs.Limits.{freqWithin};
 ghost use Rattle.findf.specs.Look.{Entries};

@@ -1,7 +1,7 @@
 // Translated from hfcast-engine (commit bf34e8f9f3), src/voacap/modes.rs lines 746 to 770, and changed.
 // The looks of one angle: the inner loop of findf.
 ghost use mathlib.Core.Path.{_≡_};
-ghost use Prim.Native.Nat.{_+_, _-_, _≤_, _<_};
+ghost use Prim.Native.Nat.{_≤_, _<_};
 ghost use lib.IntN.{natAbs};
 ghost use Rattle.findf.specs.Look.{Entry, Entries, entryOf, looksOf};
 use super::walk::Fill;
@@ -14,7 +14,7 @@ fn unsigned(v: i32) -> u32
     v as u32
 }
 
-// The one place that reads a signed number.
+// The one place where the walk reads a signed number.
 pub(crate) fn entry(ifob: &[i32; 1200], i: usize) -> u32
     requires { ⌜ (i < 1200) × Entries (now ifob) ⌝ }
     ensures { λ r. ⌜ r ≡ entryOf (now (ifob .entry)) i ⌝ }

@@ -1,12 +1,13 @@
 // Translated from hfcast-engine (commit bf34e8f9f3), src/voacap/modes.rs lines 810 to 887, and changed.
 // The row that a fill writes, and the skip and farthest distances after it.
 ghost use mathlib.Core.Path.{_≡_};
-ghost use Prim.Native.Nat.{_+_, _-_, _*_, _≤_, _<_};
+ghost use Prim.Native.Nat.{_+_, _≤_, _<_};
 ghost use Rattle.findf.specs.Look.{Entries};
-ghost use Rattle.findf.specs.Walk.{angles, backOf, afterOf};
+ghost use Rattle.findf.specs.Walk.{ANG, backOf, afterOf};
 ghost use Rattle.findf.specs.Rows.{gapOf, slopeOf, rawAt, rawBetween, nextModeOf, modeOf, rawOf, rcosdOf, correctedOf, hopOf, correctionOf, rowBy, skipOf, farOf};
 ghost use Rattle.arith.specs.Floats.{_⊗_, D2R};
-ghost use Rattle.findf.specs.Safe.{Safe, tabledOf, Angled, Foreseen};
+ghost use Rattle.findf.specs.Safe.{Safe};
+ghost use Rattle.findf.specs.Ahead.{tabledOf, Angled, Foreseen};
 use super::look;
 use super::walk::Fill;
 use super::walk::Label;
@@ -31,13 +32,13 @@ pub(crate) struct Filling {
     pub after: Label,
 }
 
-// The corrected virtual height, and the sine of the ray's angle of incidence there.
+// The corrected virtual height, and the sine of phe.
 pub(crate) struct Corrected {
     pub hp: f32,
-    pub sine: f32,
+    pub sphe: f32,
 }
 
-// RZ times the cosine of the table's angle ia, worked out before its row.
+// RZ times the cosine of ANG's angle ia, worked out before its row.
 pub(crate) struct Ahead {
     pub ia: usize,
     pub rcosd: f32,
@@ -146,7 +147,7 @@ pub(crate) fn filling_of(
     fill: Fill,
     w: Walk,
 ) -> Filling
-    requires { ⌜ (now ang ≡ angles) × (Entries (now ifob) × ((jfhz ≤ 99999) × Safe (Label.Fill fill) w)) ⌝ }
+    requires { ⌜ (now ang ≡ ANG) × (Entries (now ifob) × ((jfhz ≤ 99999) × Safe (Label.Fill fill) w)) ⌝ }
     ensures { λ r. ⌜ (r .raw ≡ rawOf (now (fvert .entry)) (now (hprim .entry)) (now (htrue .entry)) (now (afac .entry)) (now (ifob .entry)) (now (delpen .entry)) (now (delfx .entry)) jfhz fill w)
         × ((r .mode ≡ modeOf fill (w .il) fi1) × ((r .back ≡ backOf fill) × (r .after ≡ afterOf fill))) ⌝ }
 {
@@ -197,14 +198,7 @@ pub(crate) fn filling_of(
     }
 }
 
-// RZ times the cosine of the row's angle.
-fn rcosd(label: Fill, ia: usize, del: f32) -> f32
-    ensures { λ r. ⌜ r ≡ rcosdOf label ia del ⌝ }
-{
-    RZ * angles::cos(del)
-}
-
-// The number of a row's angle in the table, 0 where it is none of the table's.
+// The number of a row's angle in ANG, 0 where it is none of ANG's.
 fn tabled(fill: Fill, ia: usize) -> usize
     ensures { λ r. ⌜ r ≡ tabledOf fill ia ⌝ }
 {
@@ -216,15 +210,23 @@ fn tabled(fill: Fill, ia: usize) -> usize
     }
 }
 
-// The same of a row's angle in degrees: what was worked out ahead, where it is this angle's.
-fn rcosd_of(ahead: Ahead, label: Fill, ia: usize, degrees: f32) -> f32
-    requires { ⌜ Foreseen ahead × Angled (tabledOf label ia) degrees ⌝ }
-    ensures { λ r. ⌜ r ≡ rcosdOf label ia (degrees ⊗ D2R) ⌝ }
+// RZ times the cosine of a row's angle.
+fn rcosd(label: Fill, ia: usize, del: f32) -> f32
+    requires { ⌜ Angled (tabledOf label ia) del ⌝ }
+    ensures { λ r. ⌜ r ≡ rcosdOf label ia del ⌝ }
+{
+    RZ * angles::cos(del)
+}
+
+// The same, as worked out ahead where that was of the row's angle.
+fn rcosd_of(ahead: Ahead, label: Fill, ia: usize, del: f32) -> f32
+    requires { ⌜ Foreseen ahead × Angled (tabledOf label ia) del ⌝ }
+    ensures { λ r. ⌜ r ≡ rcosdOf label ia del ⌝ }
 {
     if tabled(label, ia) == ahead.ia {
         return ahead.rcosd;
     }
-    rcosd(label, ia, degrees * D2R)
+    rcosd(label, ia, del)
 }
 
 // The place of the angle after angle ia; after the last, of the first. No more is promised: another place costs time and changes no answer.
@@ -234,9 +236,9 @@ fn place_after(ia: usize) -> usize
     if ia < 40 { ia } else { 0 }
 }
 
-// The cosine of the angle after angle ia.
+// RZ times the cosine of the angle after angle ia.
 pub(crate) fn ahead_of(ang: &[f32; 40], ia: usize) -> Ahead
-    requires { ⌜ now ang ≡ angles ⌝ }
+    requires { ⌜ now ang ≡ ANG ⌝ }
     ensures { λ r. ⌜ Foreseen r ⌝ }
 {
     let i = place_after(ia);
@@ -258,15 +260,16 @@ fn martyn(freq: f32, fc2: f32, rcosd: f32, ht: f32, fv: f32, hp: f32) -> Correct
     let high = hp + sph;
     Corrected {
         hp: high,
-        sine: rcosd / (RZ + high),
+        sphe: rcosd / (RZ + high),
     }
 }
 
 // The hop length.
-fn hop(del: f32, sine: f32) -> f32
-    ensures { λ r. ⌜ r ≡ hopOf del sine ⌝ }
+fn hop(del: f32, sphe: f32) -> f32
+    ensures { λ r. ⌜ r ≡ hopOf del sphe ⌝ }
 {
-    2.0 * RZ * (PIO2 - del - angles::asin(sine))
+    let phe = angles::asin(sphe);
+    2.0 * RZ * (PIO2 - del - phe)
 }
 
 // The correction of a row.
@@ -278,13 +281,13 @@ pub(crate) fn correction_of(
     ia: usize,
     ahead: Ahead,
 ) -> Corrected
-    requires { ⌜ Foreseen ahead × Angled (tabledOf fill ia) (a .del) ⌝ }
+    requires { ⌜ Foreseen ahead × Angled (tabledOf fill ia) (a .del ⊗ D2R) ⌝ }
     ensures { λ r. ⌜ r ≡ correctionOf freq fc2 fill ia a ⌝ }
 {
     martyn(
         freq,
         fc2,
-        rcosd_of(ahead, fill, ia, a.del),
+        rcosd_of(ahead, fill, ia, a.del * D2R),
         a.ht,
         a.fv,
         a.hp,
@@ -295,7 +298,7 @@ pub(crate) fn correction_of(
 pub(crate) fn row_of(a: Raw, m: Corrected, mode: u32) -> Row
     ensures { λ r. ⌜ r ≡ rowBy a m mode ⌝ }
 {
-    let gdr = hop(a.del * D2R, m.sine);
+    let gdr = hop(a.del * D2R, m.sphe);
     Row {
         del: a.del,
         hp: m.hp,

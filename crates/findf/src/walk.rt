@@ -1,9 +1,9 @@
 // Translated from hfcast-engine (commit bf34e8f9f3), src/voacap/modes.rs lines 699 to 809 and 890 to 899, and ionogram.rs lines 23 to 28, and changed.
 // The walk of findf: its labels, its state, and each step that writes no row.
 ghost use mathlib.Core.Path.{_≡_};
-ghost use Prim.Native.Nat.{_+_, _-_, _*_, _≤_};
+ghost use Prim.Native.Nat.{_≤_};
 ghost use Rattle.findf.specs.Look.{Entries};
-ghost use Rattle.findf.specs.Walk.{angles, withLabel, searchOf, nextLayerOf, nextCuspOf, afterOf, backOf, filledOf};
+ghost use Rattle.findf.specs.Walk.{ANG, withLabel, searchOf, nextLayerOf, nextCuspOf, afterOf, backOf, filledOf};
 ghost use Rattle.findf.specs.Safe.{Safe};
 use super::look;
 
@@ -101,7 +101,7 @@ pub(crate) fn search(
     nang: usize,
     w: Walk,
 ) -> Walk
-    requires { ⌜ (now ang ≡ angles) × (Entries (now ifob) × ((nang ≤ 40) × Safe (w .label) w)) ⌝ }
+    requires { ⌜ (now ang ≡ ANG) × (Entries (now ifob) × ((nang ≤ 40) × Safe (w .label) w)) ⌝ }
     ensures { λ r. ⌜ r ≡ searchOf (now (ifob .entry)) (now (delpen .entry)) jfhz nang w ⌝ }
 {
     let il = w.il;

@@ -2,8 +2,9 @@ use mathlib.Core.Path.{refl, ap, subst}
 use native.Mathlib.Omega.{arith}
 use borrow.Author.Needs.{needs}
 use Rattle.arith.specs.RunLaws.{Leads, leads-start, leads-more, leads-done}
-use Rattle.findf.specs.Walk.{angles, start}
-use Rattle.findf.specs.Safe.{Safe, Foreseen}
+use Rattle.findf.specs.Walk.{ANG, start}
+use Rattle.findf.specs.Safe.{Safe}
+use Rattle.findf.specs.Ahead.{Foreseen}
 use Rattle.findf.specs.WalkLaws.{μ, Good, good-safe, steps-fine, search-fine, next-layer-fine, next-cusp-fine, filled-fine}
 use Rattle.findf.specs.Findf.{inputsOf, turnOf, walkOf, walkedOf, answer, reflectrixFrom}
 use Rattle.findf.specs.declared.walk.Label.{Label}
@@ -23,7 +24,7 @@ abbrev μ-loop : tie.MeasureT-loop
 μ-loop delfx₀ hpflx₀ htflx₀ gdflx₀ fvflx₀ afflx₀ imode₀ nang freq amind jfhz fi1 fc2 delpen fvert hprim htrue afac ifob ang ahead₀ f₀ w₀ delfx hpflx htflx gdflx fvflx afflx imode ahead f w = μ (w .label) w
 
 ahead-of-requires : tie.Need-ahead-of-requires Inv-loop μ-loop
-unfolding angles
+unfolding ANG
 ahead-of-requires c κs = refl
 
 loop-holds : tie.Need-loop-holds Inv-loop μ-loop
@@ -34,7 +35,7 @@ enum-told : tie.Need-enum-told Inv-loop μ-loop
 enum-told c = search needs
 
 search-requires : tie.Need-search-requires Inv-loop μ-loop
-unfolding angles
+unfolding ANG
 search-requires c κs = (refl, (c .before .before .before .before .before .pre .0, (c .before .before .before .before .before .pre .1 .0, good-safe (c .before .before .loop .inv .0))))
 
 loop-less : tie.Need-loop-less Inv-loop μ-loop
@@ -77,14 +78,14 @@ enum-known-label : tie.Need-enum-known-label Inv-loop μ-loop
 enum-known-label c = search needs
 
 filling-of-requires : tie.Need-filling-of-requires Inv-loop μ-loop
-unfolding angles
+unfolding ANG
 filling-of-requires c κs = (refl, (c .before .before .before .before .before .before .before .pre .0, (c .before .before .before .before .before .before .before .pre .1 .1, subst (λ (l : Label). Safe l (c .before .before .before .before .loop .w)) (c .before .before .label .given .1) (good-safe (c .before .before .before .before .loop .inv .0)))))
 
 correction-of-requires : tie.Need-correction-of-requires Inv-loop μ-loop
-correction-of-requires c κs = (c .before .before .before .before .before .before .loop .inv .1 .1, angled _ _ _ _ _ _ _ _ _ _ (c .before .filling-of .ensures .0))
+correction-of-requires c κs = (c .before .before .before .before .before .before .loop .inv .1 .1, angled _ _ _ _ _ _ _ _ _ _ (good-safe (c .before .before .before .before .before .before .loop .inv .0) .ia-cap) (c .before .filling-of .ensures .0))
 
 ahead-of-requires-2 : tie.Need-ahead-of-requires-2 Inv-loop μ-loop
-unfolding angles
+unfolding ANG
 ahead-of-requires-2 c κs = refl
 
 row-of-requires : tie.Need-row-of-requires Inv-loop μ-loop

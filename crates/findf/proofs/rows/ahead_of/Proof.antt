@@ -1,7 +1,7 @@
+use mathlib.Core.Path.{refl}
 use native.Mathlib.Nat.{add-sub-cancel}
 use borrow.Author.Needs.{needs}
 use Rattle.findf.specs.Walk.{angOf}
-use Rattle.findf.specs.Rows.{rcosdOf}
 use Rattle.findf.proofs.rows.ahead_of.Statement.{statement}
 use Rattle.findf.proofs.rows.ahead_of.Tie as tie
 
@@ -18,10 +18,11 @@ element-copy-out-rcosd : tie.Need-element-copy-out-rcosd
 element-copy-out-rcosd c = search needs
 
 rcosd-requires : tie.Need-rcosd-requires
-rcosd-requires c κs = search needs
+unfolding angOf
+rcosd-requires c κs k = (search needs, simp (add-sub-cancel (c .before .place-after .result) 1, ← c .before .before .pre) refl)
 
 returns : tie.Need-returns
-unfolding rcosdOf angOf
+unfolding angOf
 returns c = (search needs, simp (add-sub-cancel (c .before .before .place-after .result) 1, ← c .before .before .before .pre) (c .rcosd .ensures))
 
 pub ahead-of-spec : {M : Type 1} → statement M

@@ -1,8 +1,7 @@
 use mathlib.Core.Path.{sym, subst, _∙_}
 use Prim.Native.Nat.{ℕ}
 use borrow.Author.Needs.{needs}
-use Rattle.findf.specs.Rows.{rcosdOf}
-use Rattle.findf.specs.Safe.{Angled}
+use Rattle.findf.specs.Ahead.{Angled, rcosd-same}
 use Rattle.findf.proofs.rows.rcosd_of.Statement.{statement}
 use Rattle.findf.proofs.rows.rcosd_of.Tie as tie
 
@@ -10,11 +9,11 @@ tabled-requires : tie.Need-tabled-requires
 tabled-requires c κs = search needs
 
 returns : tie.Need-returns
-unfolding rcosdOf
 returns c =
     let a = c .before .before .before in
     let same = sym (c .before .before .tabled .ensures) ∙ c .if1 .taken in
-    rw (subst (λ (n : ℕ). Angled n (a .args .degrees)) same (a .pre .1) (a .pre .0 .0)) (a .pre .0 .1)
+    let at = subst (λ (n : ℕ). Angled n (a .args .del)) same (a .pre .1) (a .pre .0 .0) .1 in
+    a .pre .0 .1 ∙ rw at (rcosd-same _ _ _ _ _)
 
 rcosd-requires : tie.Need-rcosd-requires
 rcosd-requires c κs = search needs
