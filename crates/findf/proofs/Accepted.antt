@@ -10,10 +10,9 @@ use lib.IntN.{ℤ, pos, negsuc}
 use lib.Ieee.{Float}
 use borrow.Author.Count.{below-more}
 use borrow.Author.Tests.{leb-true}
-use Rattle.limits.specs.Limits.{broken, kWithin, freqWithin, ifobWithin}
+use Rattle.limits.specs.Limits.{entriesWithin, broken, kWithin, freqWithin, ifobWithin}
 use Rattle.limits.specs.LimitsLaws.{both}
 use Rattle.findf.specs.Look.{Entry, Entries}
-use Rattle.findf.specs.Checks.{entriesWithin}
 use Rattle.findf.specs.Findf.{startedOf, limitsOf, admissionBy, numberOf, refusedOf, unlessRefused}
 use Rattle.findf.specs.FindfLaws.{unbroken}
 use Rattle.findf.specs.declared.checks.Admission.{Admission}

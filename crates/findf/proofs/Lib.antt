@@ -1,7 +1,6 @@
 pub mod Entry
 pub mod Cut
 pub mod Accepted
-pub mod Signs
 pub mod Steps
 pub mod Fills
 pub mod Begins

@@ -3,9 +3,8 @@ use Prim.Native.Nat.{ℕ, zero, suc}
 use mathlib.Core.Bool.{Bool, true, _&&_}
 use mathlib.Core.List.{List}
 use lib.ListN.{getD}
-use lib.IntN.{ℤ, pos}
 use lib.Ieee.{Float, nan}
-use Rattle.limits.specs.Limits.{fvertWithin, hprimWithin, htrueWithin, afacWithin, ifobWithin}
+use Rattle.limits.specs.Limits.{fvertWithin, hprimWithin, htrueWithin, afacWithin}
 
 -- 9: one row of the four tables, and the first n rows
 abbrev pub rowWithin : Float → Float → Float → Float → Bool
@@ -15,8 +14,3 @@ unfoldable pub rowsWithin : List Float → List Float → List Float → List Fl
 rowsWithin fvert hprim htrue afac zero = true
 rowsWithin fvert hprim htrue afac (suc i) =
     rowsWithin fvert hprim htrue afac i && rowWithin (getD fvert i nan) (getD hprim i nan) (getD htrue i nan) (getD afac i nan)
-
--- 10: the first n entries
-unfoldable pub entriesWithin : List ℤ → ℕ → Bool
-entriesWithin ifob zero = true
-entriesWithin ifob (suc i) = entriesWithin ifob i && ifobWithin (getD ifob i (pos 0))

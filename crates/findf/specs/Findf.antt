@@ -8,11 +8,11 @@ use lib.IntN.{ℤ}
 use lib.Ieee.{Float, nan, toUnsigned, neg}
 use Rattle.arith.specs.Floats.{f32, _⊗_}
 use Rattle.arith.specs.Run.{Next, run, until}
-use Rattle.limits.specs.Limits.{broken, refusalK, kWithin, refusalNang, nangWithin, refusalFreq, freqWithin, refusalAmind, amindWithin, refusalFi, fiWithin, refusalTable, refusalIfob}
+use Rattle.limits.specs.Limits.{entriesWithin, broken, refusalK, kWithin, refusalNang, nangWithin, refusalFreq, freqWithin, refusalAmind, amindWithin, refusalFi, fiWithin, refusalTable, refusalIfob}
 use Rattle.findf.specs.Penang.{0·0, 1·0, penangOf}
 use Rattle.findf.specs.Walk.{searchOf, nextLayerOf, nextCuspOf, filledOf, doneAt, start}
 use Rattle.findf.specs.Rows.{rowOf, putRow}
-use Rattle.findf.specs.Checks.{rowsWithin, entriesWithin}
+use Rattle.findf.specs.Checks.{rowsWithin}
 use Rattle.findf.specs.declared.penang.Penetration.{Penetration}
 use Rattle.findf.specs.declared.walk.Walk.{Walk}
 use Rattle.findf.specs.declared.walk.Label.{Label}

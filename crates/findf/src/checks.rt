@@ -3,7 +3,7 @@ ghost use mathlib.Core.Path.{_≡_};
 ghost use mathlib.Core.Bool.{true, cond};
 ghost use Prim.Native.Nat.{ℕ};
 ghost use Rattle.limits.specs.Limits.{kWithin, broken};
-ghost use Rattle.findf.specs.Checks.{rowWithin, rowsWithin, entriesWithin};
+ghost use Rattle.findf.specs.Checks.{rowWithin, rowsWithin};
 ghost use Rattle.findf.specs.Findf.{limitsOf, admissionOf, numberOf};
 
 // The second and the third number of the job's point, or the number of the first broken limit.
@@ -31,22 +31,6 @@ fn rows_within(fvert: &[f32; 30], hprim: &[f32; 30], htrue: &[f32; 30], afac: &[
         i += 1;
     }
     ok
-}
-
-// All 1,200, without an early exit: no branch in the loop. The bits of all of them together tell whether one is below 0.
-fn entries_within(ifob: &[i32; 1200]) -> bool
-    ensures { λ r. ⌜ r ≡ entriesWithin (now (ifob .entry)) 1200 ⌝ }
-{
-    let mut bits = 0i32;
-    let mut above = false;
-    let mut i = 0usize;
-    while i < 1200 {
-        let entry = ifob[i];
-        bits = bits | entry;
-        above = above | (entry > limits::IFOB_MAX);
-        i += 1;
-    }
-    (0 <= bits) & !above
 }
 
 // The number of a broken limit, else what the later limits give.
@@ -85,7 +69,7 @@ fn broken_after_k(
                     kept_or(
                         rows_within(fvert, hprim, htrue, afac),
                         limits::REFUSAL_TABLE,
-                        kept_or(entries_within(ifob), limits::REFUSAL_IFOB, 0),
+                        kept_or(limits::entries_within(ifob), limits::REFUSAL_IFOB, 0),
                     ),
                 ),
             ),

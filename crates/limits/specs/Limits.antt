@@ -1,8 +1,9 @@
 -- Document 01, "The bytes of a job": the ranges 3 to 13, each by its number, its sentence and a test that computes. "Ends are included."
-use Prim.Native.Nat.{ℕ, _+_}
+use Prim.Native.Nat.{ℕ, zero, suc, _+_}
 use mathlib.Core.Bool.{Bool, true, false, _&&_}
 use mathlib.Core.List.{List, [], _∷_}
 use lib.Dec.{leb}
+use lib.ListN.{getD}
 use lib.IntN.{ℤ, pos}
 use lib.Signed.{leZ}
 use lib.Ieee.{Float, neg, le}
@@ -82,6 +83,11 @@ refusalIfob = 10
 
 abbrev pub ifobWithin : ℤ → Bool
 ifobWithin x = leZ (pos 0) x && leZ x (pos 99999)
+
+-- the first n entries
+unfoldable pub entriesWithin : List ℤ → ℕ → Bool
+entriesWithin ifob zero = true
+entriesWithin ifob (suc i) = entriesWithin ifob i && ifobWithin (getD ifob i (pos 0))
 
 -- 11. "`accumulate` has ist 0 or lst above 7."
 abbrev pub refusalSlots : ℕ

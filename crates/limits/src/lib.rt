@@ -1,7 +1,7 @@
 // The ranges that a job, `accumulate` and `prbmuf` are held to, each with the number of its refusal (document 01, "The bytes of a job", 3 to 13).
 ghost use mathlib.Core.Path.{_≡_};
 ghost use Rattle.limits.specs.Limits.{kWithin, nangWithin, freqWithin, amindWithin, ghopWithin, fiWithin};
-ghost use Rattle.limits.specs.Limits.{fvertWithin, hprimWithin, htrueWithin, afacWithin, ifobWithin};
+ghost use Rattle.limits.specs.Limits.{fvertWithin, hprimWithin, htrueWithin, afacWithin, entriesWithin};
 ghost use Rattle.limits.specs.Limits.{slotsWithin, countWithin, layerWithin};
 ghost use Rattle.limits.specs.Limits as meant;
 
@@ -27,9 +27,6 @@ pub const REFUSAL_SLOTS: u32 = 11;
 pub const REFUSAL_COUNT: u32 = 12;
 
 pub const REFUSAL_LAYER: u32 = 13;
-
-// The largest entry of ifob.
-pub const IFOB_MAX: i32 = 99999;
 
 // Ends included; NaN is within no range.
 fn within(lo: f32, hi: f32, x: f32) -> bool
@@ -99,10 +96,20 @@ pub fn afac_within(afac: f32) -> bool
     within(-1000000.0, 1000000.0, afac)
 }
 
-pub fn ifob_within(entry: i32) -> bool
-    ensures { λ r. ⌜ r ≡ ifobWithin entry ⌝ }
+// All 1,200 entries of ifob, without an early exit: no branch in the loop. The bits of all of them together tell whether one is below 0.
+pub fn entries_within(ifob: &[i32; 1200]) -> bool
+    ensures { λ r. ⌜ r ≡ entriesWithin (now (ifob .entry)) 1200 ⌝ }
 {
-    (0 <= entry) & (entry <= IFOB_MAX)
+    let mut bits = 0i32;
+    let mut above = false;
+    let mut i = 0usize;
+    while i < 1200 {
+        let entry = ifob[i];
+        bits = bits | entry;
+        above = above | (entry > 99999);
+        i += 1;
+    }
+    (0 <= bits) & !above
 }
 
 pub fn slots_within(ist: usize, lst: usize) -> bool

@@ -11,14 +11,14 @@ use lib.Ieee.{toBits, ofBits, ofInt, neg, add, sub, mul, div, lt, le, eq, toUnsi
 use Rattle.arith.specs.Floats.{absOf, minOf, maxOf}
 use Rattle.fnorml.specs.Fnorml.{tailOf, sizeOf, fnormlOf}
 use Rattle.sigdis.specs.Prbmuf.{spreadOf, sideOf, chanceOf, prbmufOf}
-use Rattle.limits.specs.Limits.{within, broken}
+use Rattle.limits.specs.Limits.{entriesWithin, within, broken}
 use Rattle.root.specs.Root.{sqrtOf}
 use Rattle.arith.specs.Run.{run, until}
 use Rattle.findf.specs.Penang.{fratOf, angleOf, cuspOf, xmOf, cdelOf, topOf, f2Of, f1Of, penangOf}
 use Rattle.findf.specs.Look.{entryOf, lookBy, lookOf, looksOf}
 use Rattle.findf.specs.Walk.{ANG, angOf, searchBy, searchOf, nextLayerBy, nextLayerOf, nextCuspBy, nextCuspOf, filledBy, filledOf}
 use Rattle.findf.specs.Rows.{gapOf, slopeOf, rawOf, nextModeOf, rcosdOf, highOf, hopOf, correctedOf, rowOf, skipOf, farOf}
-use Rattle.findf.specs.Checks.{rowsWithin, entriesWithin}
+use Rattle.findf.specs.Checks.{rowsWithin}
 use Rattle.findf.specs.Findf.{fillOf, stepBy, stepOf, walkOf, walkedOf, jfhzOf, startedOf, limitsOf, unlessRefused, findfOf}
 use Rattle.fdist.specs.Pairs.{betweenOf, risingOf, equalOf, fallingOf, pairOf}
 use Rattle.fdist.specs.Fdist as hop

@@ -11,11 +11,10 @@ use mir.Syntax.{w32}
 use mir.Val.{SFits, toZ, ofZ}
 use mir.Facts.{toZ-ofZ}
 use borrow.Author.Needs.{needs, sfits-of}
-use Rattle.limits.specs.Limits.{ifobWithin}
-use Rattle.findf.specs.Checks.{entriesWithin}
-use Rattle.findf.proofs.Signs.{or-sign, not-above}
-use Rattle.findf.proofs.checks.entries_within.Statement.{statement}
-use Rattle.findf.proofs.checks.entries_within.Tie as tie
+use Rattle.limits.specs.Limits.{ifobWithin, entriesWithin}
+use Rattle.limits.proofs.Signs.{or-sign, not-above}
+use Rattle.limits.proofs.entries_within.Statement.{statement}
+use Rattle.limits.proofs.entries_within.Tie as tie
 
 -- what the bits of the entries so far and the test of their sizes tell
 abbrev kept : ℕ → Bool → Bool
