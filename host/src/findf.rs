@@ -23,6 +23,8 @@ pub struct Tally {
     /// How many accepted jobs wrote rows of each layer, and how many had a dead F2.
     pub layers: [u64; 3],
     pub dead: u64,
+    /// How many accepted jobs have a row whose length is NaN.
+    pub nan: u64,
     pub most_rows: usize,
     /// The most rows and looks beyond nang.
     pub rows_beyond: i64,
@@ -38,6 +40,7 @@ impl Tally {
             *count += u64::from(w.rfx.imode[..rows].contains(&layer));
         }
         self.dead += u64::from(w.rfx.delpen[2] == 0.0);
+        self.nan += u64::from(w.rfx.gdflx[..rows].iter().any(|length| length.is_nan()));
         self.most_rows = self.most_rows.max(rows);
         self.rows_beyond = self.rows_beyond.max(rows as i64 - nang as i64);
         self.looks_beyond = self.looks_beyond.max(i64::from(w.looks) - nang as i64);
@@ -50,6 +53,7 @@ impl Tally {
         add(&mut self.refusals, &other.refusals);
         add(&mut self.layers, &other.layers);
         self.dead += other.dead;
+        self.nan += other.nan;
         self.most_rows = self.most_rows.max(other.most_rows);
         self.rows_beyond = self.rows_beyond.max(other.rows_beyond);
         self.looks_beyond = self.looks_beyond.max(other.looks_beyond);
@@ -58,9 +62,10 @@ impl Tally {
     }
 
     pub fn print(&self, name: &str) {
-        let Tally { refusals, layers, dead, most_rows, rows_beyond, looks_beyond, .. } = self;
+        let Tally { refusals, layers, dead, nan, most_rows, rows_beyond, looks_beyond, .. } = self;
         println!("findf, {name}: {} accepted, refused {:?}", refusals[0], &refusals[3..11]);
-        println!("  with rows of E {}, F1 {}, F2 {}; {dead} dead", layers[0], layers[1], layers[2]);
+        println!("  with rows of E {}, F1 {}, F2 {}", layers[0], layers[1], layers[2]);
+        println!("  {dead} with a dead F2, {nan} with NaN");
         println!("  most rows {most_rows}; beyond nang {rows_beyond} rows, {looks_beyond} looks");
         #[cfg(oracle)]
         println!("  {}", self.differences);

@@ -21,6 +21,7 @@ fn findf_on_adversarial_jobs() {
     assert_eq!(tally.refusals[0], 200_000);
     assert!(tally.layers.iter().all(|jobs| *jobs > 20_000), "{:?}", tally.layers);
     assert!(tally.dead > 20_000, "{}", tally.dead);
+    assert!(tally.nan > 2_000, "{}", tally.nan);
     // Document 01's bounds, which some jobs reach.
     assert_eq!((tally.most_rows, tally.rows_beyond, tally.looks_beyond), (44, 4, 28));
 }
