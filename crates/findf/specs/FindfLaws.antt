@@ -1,22 +1,28 @@
 -- Laws of findf for every accepted job, whatever the tables hold. Assumes nothing.
+-- `findf-walks`: the answer is that of the walk. `looks-few`, `rows-few`: looks ≤ nang + 28, rows ≤ nang + 4. `looks-turns`, `rows-steps`: looks are the
+-- turns of the inner loop, rows the steps that write one. `row-written`: each fill's row is in the answer. `row-number`: its number, counted from 0, is
+-- that of the fills before it.
 use mathlib.Core.Path.{_≡_, refl, sym, subst, _∙_}
 use mathlib.Core.Bool.{Bool, true, false}
 use mathlib.Core.List.{List, [], _∷_}
 use Prim.Native.Nat.{ℕ, suc, _+_, _≤_}
+use native.Mathlib.Nat.{zero-add}
 use native.Mathlib.Omega.{arith}
 use lib.ListN.{getD}
 use lib.IntN.{ℤ}
 use lib.Ieee.{Float, nan}
 use borrow.Author.Tests.{leb-true}
 use Rattle.arith.specs.Floats.{_⊗_}
-use Rattle.arith.specs.Run.{count}
+use Rattle.arith.specs.Run.{count, iterate}
 use Rattle.limits.specs.Limits.{broken}
 use Rattle.findf.specs.Penang.{penangOf}
 use Rattle.findf.specs.Walk.{start}
-use Rattle.findf.specs.Findf.{Inputs, State, inputsOf, jfhzOf, turnOf, walkOf, walkedOf, begun, startedOf, limitsOf, unlessRefused, findfOf}
-use Rattle.findf.specs.StepLaws.{lookTurns, rowsDue, walk-iterate, walk-few, walk-looks, walk-rows}
-use Rattle.findf.specs.RowsLaws.{beyond-zero, begun-beyond}
+use Rattle.findf.specs.Findf.{Inputs, State, inputsOf, jfhzOf, stepOf, turnOf, walkOf, walkedOf, begun, startedOf, limitsOf, unlessRefused, findfOf}
+use Rattle.findf.specs.StepLaws.{lookTurns, rowsDue, rows-iterate, walk-iterate, walk-resumes, walk-few, fill-few, walk-looks, walk-rows}
+use Rattle.findf.specs.RowsLaws.{rowAt, Sized, RowIs, sized-throughout, begun-sized, filled-stays, beyond-zero, begun-beyond}
 use Rattle.findf.specs.declared.penang.Penetration.{Penetration}
+use Rattle.findf.specs.declared.walk.Label.the-variants.{Fill}
+use Rattle.findf.specs.declared.walk.Fill as F
 use Rattle.findf.specs.declared.Reflectrix.{Reflectrix}
 use Rattle.findf.specs.declared.Walked.{Walked}
 
@@ -48,6 +54,14 @@ module _ (r : Reflectrix) (k nang : ℕ) (freq amind : Float) (fi : List (List F
 
   abbrev pub first : Reflectrix
   first = begun r p
+
+  -- the state after n steps
+  abbrev pub stateAt : ℕ → State
+  stateAt n = iterate n (stepOf read) (start, first)
+
+  -- its `rows` is the number of the fills among them
+  pub row-number : (n : ℕ) → stateAt n .0 .rows ≡ count (turnOf read) rowsDue n (start, first)
+  row-number n = rows-iterate read n (start, first) ∙ zero-add _
 
   module _ (ok : Accepted) where
     nang-cap : nang ≤ 40
@@ -81,3 +95,13 @@ module _ (r : Reflectrix) (k nang : ℕ) (freq amind : Float) (fi : List (List F
     pub rows-steps : answerOf .rfx .«rows_this_call» ≡ count (turnOf read) rowsDue 430 (start, first)
     unfolding walkedOf
     rows-steps = rw findf-walks (rows-counted ∙ walk-rows read nang-cap first)
+
+    -- the row that a fill writes after n steps is row `rows` of the answer, counted from 0
+    pub row-written : Sized r → (n : ℕ) (fill : F.Fill) → stateAt n .0 .label ≡ Fill fill
+        → RowIs (stateAt n .0 .rows) (rowAt read fill (stateAt n .0) (stateAt n .1)) (answerOf .rfx)
+    unfolding walkedOf
+    row-written z n fill l =
+        let s = stateAt n in
+        rw findf-walks
+        (subst (λ (t : State). RowIs (s .0 .rows) (rowAt read fill (s .0) (s .1)) (t .1)) (walk-resumes read nang-cap first n 431 (omega arith))
+        (filled-stays read s fill l (sized-throughout read first (begun-sized r p z) n) (omega (arith, fill-few read nang-cap first n fill l, nang-cap)) 430))

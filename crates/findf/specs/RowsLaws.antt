@@ -1,14 +1,15 @@
 -- Laws of what the walk writes, for every state and any tables. Assumes nothing.
--- `fill-writes`, `fill-spares`: a fill writes row `rows` and no other. `others-keep`: any other step writes nothing. `written-stays`: a row once written
--- stays. `unwritten-keeps`: a row that is not written keeps its old contents. `beyond-zero`: from the start on, heights, angles and
+-- `fill-writes`, `fill-spares`: a fill writes row `rows` and no other. `others-keep`: any other step writes nothing. `step-sized`, `sized-throughout`:
+-- columns of 45 rows stay so; `begun-sized`: findf starts with them. `written-stays`: a row once written stays; `filled-stays`: and so does a fill's row.
+-- `unwritten-keeps`: a row that is not written keeps its old contents. `beyond-zero`: from the start on, heights, angles and
 -- lengths beyond the rows written are +0, and `rows_this_call` is the number of rows. `dmaxkm-never-falls`: no step lowers dmaxkm, and
 -- it never is NaN.
-use mathlib.Core.Path.{_≡_, refl, sym, subst, _∙_}
+use mathlib.Core.Path.{_≡_, refl, sym, ap, subst, _∙_}
 use mathlib.Core.Bool.{Bool, true, false, cond}
 use mathlib.Core.Logic.{_≢_}
-use Prim.Native.Nat.{ℕ, _+_, _≤_, _<_}
+use Prim.Native.Nat.{ℕ, suc, _+_, _≤_, _<_}
 use native.Mathlib.Omega.{arith}
-use lib.ListN.{getD, length, length-set, getD-replicate}
+use lib.ListN.{getD, length, length-set, length-replicate, getD-replicate}
 use lib.Seq.{getD-set-same, getD-set-other}
 use lib.Ieee.{Float, nan, ofBits, neg, lt, le, eq}
 use Rattle.arith.specs.Order.{le-number, le-trans}
@@ -114,6 +115,37 @@ others-keep e (Fill fill) w r d = absurd (omega arith)
 others-keep e NextCusp w r d = refl
 others-keep e Done w r d = refl
 
+-- a step keeps columns of 45 rows
+sized-by : (e : Inputs) (l : Label) (w : Walk) (r : Reflectrix) → Sized r → Sized (stepBy e l w r .1)
+unfolding stepBy
+sized-by e Search w r z = z
+sized-by e NextLayer w r z = z
+sized-by e (Fill fill) w r z = fill-sized e fill w r z
+sized-by e NextCusp w r z = z
+sized-by e Done w r z = z
+
+module _ (e : Inputs) where
+  pub step-sized : (s : State) → Sized (s .1) → Sized (stepOf e s .1)
+  unfolding stepOf
+  step-sized s z = sized-by e (s .0 .label) (s .0) (s .1) z
+
+  -- after every step from a start
+  pub sized-throughout : (r : Reflectrix) → Sized r → (n : ℕ) → Sized (iterate n (stepOf e) (start, r) .1)
+  sized-throughout r z n = iterate-keeps (stepOf e) (λ (s : State). Sized (s .1)) step-sized n (start, r) z
+
+-- findf starts with them if it is given them
+pub begun-sized : (r : Reflectrix) (p : Penetration) → Sized r → Sized (begun r p)
+begun-sized r p z =
+    record {
+      len-del = length-replicate 45 0·0;
+      len-hp = length-replicate 45 0·0;
+      len-ht = z .len-ht;
+      len-gdr = length-replicate 45 0·0;
+      len-fv = z .len-fv;
+      len-af = z .len-af;
+      len-mode = z .len-mode;
+    }
+
 same-row : (j : ℕ) (r : Reflectrix) → SameRow j r r
 same-row j r = record { same-del = refl; same-hp = refl; same-ht = refl; same-gdr = refl; same-fv = refl; same-af = refl; same-mode = refl }
 
@@ -127,6 +159,18 @@ same-trans a b =
       same-fv = b .same-fv ∙ a .same-fv;
       same-af = b .same-af ∙ a .same-af;
       same-mode = b .same-mode ∙ a .same-mode;
+    }
+
+row-same : {i : ℕ} {t : Row} {r s : Reflectrix} → RowIs i t r → SameRow i r s → RowIs i t s
+row-same a b =
+    record {
+      is-del = b .same-del ∙ a .is-del;
+      is-hp = b .same-hp ∙ a .is-hp;
+      is-ht = b .same-ht ∙ a .is-ht;
+      is-gdr = b .same-gdr ∙ a .is-gdr;
+      is-fv = b .same-fv ∙ a .is-fv;
+      is-af = b .same-af ∙ a .is-af;
+      is-mode = b .same-mode ∙ a .is-mode;
     }
 
 -- a step changes no row but row `rows`, counted from 0
@@ -161,6 +205,23 @@ module _ (e : Inputs) where
   written-stays s j h n =
       iterate-keeps next (λ (t : State). (j < t .0 .rows) × SameRow j (s .1) (t .1))
       (λ t k. (omega (arith, rows-rise t, k .0), same-trans (k .1) (spares t j (apart-below (t .0 .rows) j (k .0))))) n s (h, same-row j (s .1)) .1
+
+  -- and so does the row that a fill writes, from the next state on
+  fill-next : (s : State) (fill : F.Fill) → s .0 .label ≡ Fill fill → next s .1 ≡ fillOf e fill (s .0) (s .1)
+  unfolding stepOf stepBy
+  fill-next s fill l = ap (λ (k : Label). stepBy e k (s .0) (s .1) .1) l
+
+  fill-counts : (s : State) (fill : F.Fill) → s .0 .label ≡ Fill fill → next s .0 .rows ≡ s .0 .rows + 1
+  unfolding stepOf
+  fill-counts s fill l = omega (arith, step-rows e (s .0 .label) (s .0) (s .1), ap due l)
+
+  pub filled-stays : (s : State) (fill : F.Fill) → s .0 .label ≡ Fill fill → Sized (s .1) → s .0 .rows < 45 → (n : ℕ)
+      → RowIs (s .0 .rows) (rowAt e fill (s .0) (s .1)) (iterate (suc n) next s .1)
+  unfolding iterate
+  filled-stays s fill l z h n =
+      let i = s .0 .rows in
+      row-same (subst (RowIs i (rowAt e fill (s .0) (s .1))) (sym (fill-next s fill l)) (fill-writes e fill (s .0) (s .1) z h))
+      (written-stays (next s) i (omega (arith, fill-counts s fill l)) n)
 
   -- a row that is not written yet keeps what it had
   unwritten-by : (l : Label) (w : Walk) (r : Reflectrix) (j : ℕ) → stepBy e l w r .0 .rows ≤ j → SameRow j r (stepBy e l w r .1)

@@ -1,19 +1,21 @@
 -- Laws of the walk's steps, for nang ≤ 40 and any tables. Assumes nothing.
 -- `walk-few`: looks ≤ nang + 28, rows ≤ nang + 4. `walk-same`: the answer does not depend on the fuel or on the default. `walk-iterate`: it is the step
 -- iterated, so `stepOf` alone is the meaning; `iterate-add` (arith) says that m + n steps are n steps after m, and `walk-resumes` that the walk
--- may be cut anywhere. `walk-done`: it ends at Done.
+-- may be cut anywhere. `walk-done`: it ends at Done. `stop-never`: the stop at 45 rows is never taken.
 -- `walk-looks`, `walk-rows`: looks are the turns of the inner loop, and rows the steps that write one.
-use mathlib.Core.Path.{_≡_, refl, sym, subst, _∙_}
+-- `rows-iterate`: n steps add the steps among them that write one, whatever nang is.
+use mathlib.Core.Path.{_≡_, refl, sym, ap, subst, _∙_}
 use mathlib.Core.Bool.{Bool, true, false}
-use Prim.Native.Nat.{ℕ, _+_, _*_, _-_, _≤_, _<_}
+use Prim.Native.Nat.{ℕ, zero, suc, _+_, _*_, _-_, _≤_, _<_}
 use native.Mathlib.Nat.{zero-add}
 use native.Mathlib.Omega.{arith}
 use lib.Dec.{leb}
 use lib.ListN.{getD}
 use lib.Ieee.{nan, lt, le}
+use borrow.Author.Tests.{lt-leb}
 use Rattle.arith.specs.Floats.{_⊖_}
-use Rattle.arith.specs.Run.{run, count, iterate, until, stopBy}
-use Rattle.arith.specs.RunLaws.{Lessens, Raised, Kept, run-same, run-keeps, run-counts, run-iterate, iterate-add, iterate-keeps}
+use Rattle.arith.specs.Run.{rest, run, count, iterate, until, stopBy}
+use Rattle.arith.specs.RunLaws.{Lessens, Raised, Kept, run-same, run-keeps, run-counts, run-iterate, iterate-add, iterate-fixed, iterate-keeps}
 use Rattle.findf.specs.Penang.{0·0}
 use Rattle.findf.specs.LookLaws.{turnsFrom, looks-are-turns}
 use Rattle.findf.specs.Walk.{89·99, angOf, searchBy, searchOf, nextLayerBy, nextLayerOf, nextCuspBy, nextCuspOf, filledBy, filledOf, withLabel, doneAt, start}
@@ -149,26 +151,28 @@ module _ (e : Inputs) where
   abbrev looksOfState : State → ℕ
   looksOfState s = s .0 .looks
 
-  abbrev rowsOfState : State → ℕ
-  rowsOfState s = s .0 .rows
-
   looks-raise-by : (b : Bool) (s : State) → stopsAt s ≡ b → Raised looksOfState looksOfState (looksOfState s + lookTurns e s) (stopBy b s (stepOf e s))
   unfolding stepOf
   looks-raise-by true s d = omega (arith, done-adds e (s .0 .label) (s .0) d .0)
   looks-raise-by false s d = step-looks e (s .0 .label) (s .0) (s .1)
 
-  rows-raise-by : (b : Bool) (s : State) → stopsAt s ≡ b → Raised rowsOfState rowsOfState (rowsOfState s + rowsDue s) (stopBy b s (stepOf e s))
-  unfolding stepOf
-  rows-raise-by true s d = omega (arith, done-adds e (s .0 .label) (s .0) d .1)
-  rows-raise-by false s d = step-rows e (s .0 .label) (s .0) (s .1)
-
   looks-raise : (s : State) → Reached s → Raised looksOfState looksOfState (looksOfState s + lookTurns e s) (turnOf e s)
   unfolding until
   looks-raise s g = looks-raise-by (stopsAt s) s refl
 
-  rows-raise : (s : State) → Reached s → Raised rowsOfState rowsOfState (rowsOfState s + rowsDue s) (turnOf e s)
-  unfolding until
-  rows-raise s g = rows-raise-by (stopsAt s) s refl
+  -- the rows after n steps are those before and the steps among the n that write one
+  rows-on : (n : ℕ) (g : (s : State) → iterate n (stepOf e) s .0 .rows ≡ s .0 .rows + count (turnOf e) rowsDue n s) (s : State) (b : Bool) → stopsAt s ≡ b
+      → iterate n (stepOf e) (stepOf e s) .0 .rows ≡ s .0 .rows + (rowsDue s + rest (count (turnOf e) rowsDue n) (stopBy b s (stepOf e s)))
+  unfolding stepOf
+  rows-on n g s true d =
+      let still = done-fixed e s d in
+      ap (λ (t : State). t .0 .rows) (ap (iterate n (stepOf e)) still ∙ iterate-fixed (stepOf e) n s still) ∙ omega (arith, done-adds e (s .0 .label) (s .0) d .1)
+  rows-on n g s false d = omega (arith, g (stepOf e s), step-rows e (s .0 .label) (s .0) (s .1))
+
+  pub rows-iterate : (n : ℕ) (s : State) → iterate n (stepOf e) s .0 .rows ≡ s .0 .rows + count (turnOf e) rowsDue n s
+  unfolding iterate count until
+  rows-iterate zero s = omega arith
+  rows-iterate (suc n) s = rows-on n (rows-iterate n) s (stopsAt s) refl
 
   -- a step from a reached state reaches one
   reaches-by : (b : Bool) (s : State) → stopsAt s ≡ b → Reached s → Reached (stepOf e s)
@@ -215,9 +219,17 @@ module _ (e : Inputs) where
     pub walk-reached : Reached (walkOf e r)
     walk-reached = subst Reached (sym (walk-iterate 430 (omega arith))) (reached 430)
 
-    -- "looks ≤ nang + 28", "rows ≤ nang + 4": the stop at 45 rows is never taken
+    -- "looks ≤ nang + 28", "rows ≤ nang + 4"
     pub walk-few : (walkOf e r .0 .looks ≤ e .nang + 28) × (walkOf e r .0 .rows ≤ e .nang + 4)
     walk-few = (few-looks walk-reached, few-rows walk-reached)
+
+    -- the row that a fill is to write included
+    pub fill-few : (n : ℕ) (fill : F.Fill) → iterate n (stepOf e) (start, r) .0 .label ≡ Fill fill → iterate n (stepOf e) (start, r) .0 .rows + 1 ≤ e .nang + 4
+    fill-few n fill l = omega (arith, reached n .rows-cap, ap due l)
+
+    -- so the stop at 45 rows is never taken
+    pub stop-never : (n : ℕ) (fill : F.Fill) → iterate n (stepOf e) (start, r) .0 .label ≡ Fill fill → leb 45 (iterate n (stepOf e) (start, r) .0 .rows + 1) ≡ false
+    stop-never n fill l = lt-leb 45 (iterate n (stepOf e) (start, r) .0 .rows + 1) (omega (arith, fill-few n fill l))
 
     -- it ends at Done, not for want of fuel
     pub walk-done : stopsAt (walkOf e r) ≡ true
@@ -233,7 +245,4 @@ module _ (e : Inputs) where
         ∙ zero-add _
 
     pub walk-rows : walkOf e r .0 .rows ≡ count (turnOf e) rowsDue 430 (start, r)
-    unfolding walkOf
-    walk-rows =
-        run-counts (turnOf e) Reached left turn-less left-pos rowsDue rowsOfState rowsOfState rows-raise (start, r) 430 (start, r) reached-start (omega arith)
-        ∙ zero-add _
+    walk-rows = ap (λ (s : State). s .0 .rows) (walk-iterate 430 (omega arith)) ∙ rows-iterate 430 (start, r) ∙ zero-add _
