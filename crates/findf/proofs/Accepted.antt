@@ -13,12 +13,11 @@ use borrow.Author.Tests.{leb-true}
 use Rattle.limits.specs.Limits.{entriesWithin, broken, kWithin, freqWithin, ifobWithin}
 use Rattle.limits.specs.LimitsLaws.{both}
 use Rattle.findf.specs.Look.{Entry, Entries}
-use Rattle.findf.specs.Findf.{startedOf, limitsOf, admissionBy, numberOf, refusedOf, unlessRefused}
+use Rattle.findf.specs.Findf.{startedOf, limitsOf, admissionBy, numberOf, refusedOf, findfBy}
 use Rattle.findf.specs.FindfLaws.{unbroken}
 use Rattle.findf.specs.declared.checks.Admission.{Admission}
 use Rattle.findf.specs.declared.checks.Admission.the-variants.{Granted, Refused}
 use Rattle.findf.specs.declared.Reflectrix.{Reflectrix}
-use Rattle.findf.specs.declared.Walked.{Walked}
 
 -- the first broken limit, by one test and what the limits after it give
 pub kept : (n : ℕ) (b : Bool) (ls : List (ℕ × Bool)) {x : Bool} {later r : ℕ} → r ≡ cond x later n → x ≡ b → later ≡ broken ls → r ≡ broken ((n, b) ∷ ls)
@@ -37,26 +36,22 @@ module _ (second third : Float) where
   refused-by zero h = absurd (h refl)
   refused-by (suc n) h = refl
 
-  -- a refusal is the answer, by its number
-  pub refuses : (n : ℕ) {a : Admission} {m q : ℕ} (r : Reflectrix) (w : Walked) → q ≡ numberOf a → a ≡ Refused m → a ≡ admissionBy n second third → refusedOf q r ≡ unlessRefused n r w
-  unfolding admissionBy unlessRefused
-  refuses zero r w e k b = let z : _≡_ {A = ℕ} 0 1 = cc in absurd (omega arith)
-  refuses (suc n) r w e k b = rw (e, b)
-
   -- where the job is granted, no limit is broken
   pub unrefused : (n : ℕ) {fi1 fi2 : Float} → Granted fi1 fi2 ≡ admissionBy n second third → n ≡ 0
   unfolding admissionBy
   unrefused zero e = refl
   unrefused (suc n) e = let z : _≡_ {A = ℕ} 0 1 = cc in absurd (omega arith)
 
-  -- a job that is granted is walked with the numbers of its point
-  pub walks : (n : ℕ) (r : Reflectrix) (nang : ℕ) (freq amind : Float) (fvert hprim htrue afac : List Float) (ifob : List ℤ) {fi1 fi2 : Float}
-      → Granted fi1 fi2 ≡ admissionBy n second third
-      → startedOf r nang freq amind fi1 fi2 fvert hprim htrue afac ifob
-      ≡ unlessRefused n r (startedOf r nang freq amind second third fvert hprim htrue afac ifob)
-  unfolding admissionBy unlessRefused
-  walks zero r nang freq amind fvert hprim htrue afac ifob e = cc
-  walks (suc n) r nang freq amind fvert hprim htrue afac ifob e = let z : _≡_ {A = ℕ} 0 1 = cc in absurd (omega arith)
+-- the checks' answer, once it is known, decides
+module _ (r : Reflectrix) (nang : ℕ) (freq amind : Float) (fvert hprim htrue afac : List Float) (ifob : List ℤ) {a b : Admission} (e : a ≡ b) where
+  pub refuses : {m q : ℕ} → q ≡ numberOf a → a ≡ Refused m → refusedOf q r ≡ findfBy r nang freq amind fvert hprim htrue afac ifob b
+  unfolding findfBy
+  refuses q k = rw (q, ← e, k)
+
+  pub walks : {fi1 fi2 : Float} → a ≡ Granted fi1 fi2
+      → startedOf r nang freq amind fi1 fi2 fvert hprim htrue afac ifob ≡ findfBy r nang freq amind fvert hprim htrue afac ifob b
+  unfolding findfBy
+  walks k = rw (← e, k)
 
 entry-of : (v : ℤ) → ifobWithin v ≡ true → Entry v
 entry-of (pos n) e = leb-true n 99999 (both (leb 0 n) (leb n 99999) e .1)

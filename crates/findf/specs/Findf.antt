@@ -167,6 +167,7 @@ abbrev pub numberOf : Admission → ℕ
 numberOf (Granted second third) = 0
 numberOf (Refused n) = n
 
+-- `point` is the inner array of point k
 unfoldable pub admissionOf : ℕ → ℕ → Float → Float → List (List Float) → List Float → List Float → List Float → List Float → List ℤ → Admission
 admissionOf k nang freq amind fi fvert hprim htrue afac ifob =
     let point = getD fi k [] in
@@ -176,17 +177,15 @@ admissionOf k nang freq amind fi fvert hprim htrue afac ifob =
 abbrev pub refusedOf : ℕ → Reflectrix → Walked
 refusedOf refusal r = record { refusal = refusal; looks = 0; rfx = r }
 
--- the number of the broken limit, 0 where none is, decides
-unfoldable pub unlessRefused : ℕ → Reflectrix → Walked → Walked
-unlessRefused zero r a = a
-unlessRefused (suc n) r a = refusedOf (suc n) r
+-- what becomes of a job by the checks' answer
+unfoldable pub findfBy : Reflectrix → ℕ → Float → Float → List Float → List Float → List Float → List Float → List ℤ → Admission → Walked
+findfBy r nang freq amind fvert hprim htrue afac ifob (Granted fi1 fi2) = startedOf r nang freq amind fi1 fi2 fvert hprim htrue afac ifob
+findfBy r nang freq amind fvert hprim htrue afac ifob (Refused n) = refusedOf n r
 
--- findf by value: `point` is the inner array of point k
+-- findf by value
 unfoldable pub findfOf : Reflectrix → ℕ → ℕ → Float → Float → List (List Float) → List Float → List Float → List Float → List Float → List ℤ → Walked
 findfOf r k nang freq amind fi fvert hprim htrue afac ifob =
-    let point = getD fi k [] in
-    unlessRefused (broken (limitsOf k nang freq amind point fvert hprim htrue afac ifob)) r
-    (startedOf r nang freq amind (getD point 1 nan) (getD point 2 nan) fvert hprim htrue afac ifob)
+    findfBy r nang freq amind fvert hprim htrue afac ifob (admissionOf k nang freq amind fi fvert hprim htrue afac ifob)
 
 -- the reflectrix that seven lent columns and the figures beside them make
 abbrev pub reflectrixFrom : List Float → List Float → List Float → List Float → List Float → List Float → List ℕ → Figures → Reflectrix

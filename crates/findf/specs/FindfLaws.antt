@@ -17,7 +17,7 @@ use Rattle.arith.specs.Run.{count, iterate}
 use Rattle.limits.specs.Limits.{broken}
 use Rattle.findf.specs.Penang.{penangOf}
 use Rattle.findf.specs.Walk.{start}
-use Rattle.findf.specs.Findf.{Inputs, State, inputsOf, jfhzOf, stepOf, turnOf, walkOf, walkedOf, begun, startedOf, limitsOf, unlessRefused, findfOf}
+use Rattle.findf.specs.Findf.{Inputs, State, inputsOf, jfhzOf, stepOf, turnOf, walkOf, walkedOf, begun, startedOf, limitsOf, admissionBy, admissionOf, findfBy, findfOf}
 use Rattle.findf.specs.StepLaws.{lookTurns, rowsDue, rows-iterate, walk-iterate, walk-resumes, walk-few, fill-few, walk-looks, walk-rows}
 use Rattle.findf.specs.RowsLaws.{rowAt, Sized, RowIs, sized-throughout, begun-sized, filled-stays, beyond-zero, begun-beyond}
 use Rattle.findf.specs.declared.penang.Penetration.{Penetration}
@@ -70,7 +70,7 @@ module _ (r : Reflectrix) (k nang : ℕ) (freq amind : Float) (fi : List (List F
 
     -- the answer is that of the walk
     pub findf-walks : answerOf ≡ walkedOf read first
-    unfolding findfOf startedOf unlessRefused
+    unfolding findfOf findfBy admissionOf admissionBy startedOf
     findf-walks = rw ok
 
     rows-counted : walkOf read first .1 .«rows_this_call» ≡ walkOf read first .0 .rows
