@@ -10,13 +10,25 @@ use std::time::Instant;
 const INPUTS: usize = 4096;
 const ROUNDS: usize = 50;
 
-/// The time of one turn of `turn`, which is run over the inputs' numbers.
+/// The time of one turn of `turn`, which is run over the inputs' numbers once.
+fn round(mut turn: impl FnMut(usize)) -> f64 {
+    let start = Instant::now();
+    (0..INPUTS).for_each(&mut turn);
+    start.elapsed().as_nanos() as f64 / INPUTS as f64
+}
+
 fn time(mut turn: impl FnMut(usize)) -> f64 {
-    let mut least = f64::INFINITY;
+    (0..ROUNDS).map(|_| round(&mut turn)).fold(f64::INFINITY, f64::min)
+}
+
+/// The times of several, in turn round by round: a processor that changes its speed does so for all.
+#[cfg(oracle)]
+fn race<const N: usize>(mut turns: [&mut dyn FnMut(usize); N]) -> [f64; N] {
+    let mut least = [f64::INFINITY; N];
     for _ in 0..ROUNDS {
-        let start = Instant::now();
-        (0..INPUTS).for_each(&mut turn);
-        least = least.min(start.elapsed().as_nanos() as f64 / INPUTS as f64);
+        for (turn, least) in turns.iter_mut().zip(&mut least) {
+            *least = least.min(round(turn));
+        }
     }
     least
 }
@@ -84,22 +96,22 @@ fn walks_and_searches() {
     let jobs: [FindfJob; JOBS] = std::array::from_fn(|_| findf::realistic(&mut prng));
     let rust_jobs = jobs.each_ref().map(|job| (IonoState::from(job), AreaTables::from(job)));
     let rfx = Reflectrix::random(&mut prng);
-    let mut ours_rfx = rfx;
-    let by_value = time(|i| ours_rfx = findf::ours(ours_rfx, black_box(&jobs[i % JOBS])).rfx);
-    let mut figures = Figures::from(&rfx);
-    let in_place = time(|i| {
-        let columns = black_box(&mut ours_rfx);
-        figures = findf::into_columns(columns, figures, black_box(&jobs[i % JOBS])).figures;
-    });
-    let mut rust_rfx = oracle::Reflectrix::from(rfx);
-    let mut rust = |findf: findf::RustFindf| {
-        time(|i| {
-            let FindfJob { k, freq, amind, nang, .. } = jobs[i % JOBS];
-            let (state, area) = black_box(&rust_jobs[i % JOBS]);
-            findf(black_box(&mut rust_rfx), state, area, k, freq, amind, nang);
-        })
+    let (mut copied, mut lent, mut figures) = (rfx, rfx, Figures::from(&rfx));
+    let [mut as_it_comes_rfx, mut led_rfx] = [rfx; 2].map(oracle::Reflectrix::from);
+    let rust = |findf: findf::RustFindf, rfx: &mut oracle::Reflectrix, i: usize| {
+        let FindfJob { k, freq, amind, nang, .. } = jobs[i % JOBS];
+        let (state, area) = black_box(&rust_jobs[i % JOBS]);
+        findf(black_box(rfx), state, area, k, freq, amind, nang);
     };
-    let (as_it_comes, led) = (rust(as_it_comes::findf), rust(led::findf));
+    let [by_value, in_place, as_it_comes, led] = race([
+        &mut |i| copied = findf::ours(copied, black_box(&jobs[i % JOBS])).rfx,
+        &mut |i| {
+            let columns = black_box(&mut lent);
+            figures = findf::into_columns(columns, figures, black_box(&jobs[i % JOBS])).figures;
+        },
+        &mut |i| rust(as_it_comes::findf, &mut as_it_comes_rfx, i),
+        &mut |i| rust(led::findf, &mut led_rfx, i),
+    ]);
     print("findf, by value", by_value, as_it_comes);
     print("  in place", in_place, as_it_comes);
     print("  the led Rust", led, as_it_comes);
@@ -108,16 +120,16 @@ fn walks_and_searches() {
     let rust_jobs = jobs.each_ref().map(|job| oracle::Reflectrix::from(job.rfx));
     let m = HopModes::random(&mut prng);
     let mut ours_m = m;
-    let ours = time(|i| ours_m = fdist::ours(ours_m, black_box(&jobs[i % JOBS])).m);
-    let mut rust_m = oracle::HopModes::from(m);
-    let mut rust = |fdist: fdist::RustFdist| {
-        time(|i| {
-            let FdistJob { ghop, amind, freq, .. } = jobs[i % JOBS];
-            let rfx = black_box(&rust_jobs[i % JOBS]);
-            fdist(black_box(&mut rust_m), rfx, ghop, amind, freq);
-        })
+    let [mut as_it_comes_m, mut led_m] = [m; 2].map(oracle::HopModes::from);
+    let rust = |fdist: fdist::RustFdist, m: &mut oracle::HopModes, i: usize| {
+        let FdistJob { ghop, amind, freq, .. } = jobs[i % JOBS];
+        fdist(black_box(m), black_box(&rust_jobs[i % JOBS]), ghop, amind, freq);
     };
-    let (as_it_comes, led) = (rust(as_it_comes::fdist), rust(led::fdist));
+    let [ours, as_it_comes, led] = race([
+        &mut |i| ours_m = fdist::ours(ours_m, black_box(&jobs[i % JOBS])).m,
+        &mut |i| rust(as_it_comes::fdist, &mut as_it_comes_m, i),
+        &mut |i| rust(led::fdist, &mut led_m, i),
+    ]);
     print("fdist, after a walk", ours, as_it_comes);
     print("  the led Rust", led, as_it_comes);
 }
