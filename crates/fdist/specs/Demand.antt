@@ -1,6 +1,7 @@
 -- The words of demand 3 about the search (document 01, "The words of demand 3"), by the rule on two rows and d. Rows, pairs and slots count from 0.
 use Prim.Native.Nat.{ℕ, zero, suc, _+_}
 use mathlib.Core.Bool.{Bool, false, cond, not, _&&_, _||_}
+use mathlib.Core.Path.{_≡_}
 use lib.Dec.{eqb}
 use lib.ListN.{getD}
 use lib.Ieee.{Float, nan, lt, le}
@@ -55,6 +56,10 @@ slotOf m n = record {
   af = getD (m .afmod) n nan;
   layer = getD (m .itmod) n 0;
 }
+
+-- "then their ray stands in the answer": slot n of m holds the ray of a pair, unaltered
+abbrev pub stands : Given → HopModes → ℕ → Type 0
+stands g m n = g ≡ Present (slotOf m n)
 
 -- "A pair is tried when its two hop lengths are compared": 1 for a turn that does so, 0 for one that ends before
 abbrev pub triesOf : Rows → Search → ℕ

@@ -11,8 +11,8 @@ use Rattle.findf.specs.declared.Reflectrix.{Reflectrix}
 use Rattle.fdist.specs.declared.HopModes.{HopModes}
 use Rattle.fdist.specs.declared.Searched.{Searched}
 use Rattle.fdist.specs.declared.rays.Given.the-variants.{Present}
-use Rattle.fdist.specs.Fdist.{Rows, rowsOf, Search, low, noneOf, runOf, searchOf, limitsOf, refusedOf, unlessBroken, fdistOf}
-use Rattle.fdist.specs.Demand.{rayOf, straddles, reaches, jumped, before, slotOf, triesOf, acceptsOf, countOf}
+use Rattle.fdist.specs.Fdist.{Rows, rowsOf, Search, low, noneOf, runOf, searchBy, searchOf, limitsOf, refusedOf, unlessBroken, fdistBy, fdistOf}
+use Rattle.fdist.specs.Demand.{rayOf, straddles, reaches, jumped, before, slotOf, stands, triesOf, acceptsOf, countOf}
 use Rattle.fdist.specs.SlotLaws.{Reached, empty-reached}
 use Rattle.fdist.specs.SearchLaws.{pairs-raised, rays-raised, run-counted, run-few, run-reached, run-unrefused}
 use Rattle.fdist.specs.StraddleLaws.{run-holds, straddle-gives}
@@ -50,21 +50,21 @@ module _ (m : HopModes) (rfx : Reflectrix) (ghop amind freq : Float) where
 
   -- the number of the first limit broken, 0 where none is; a refusal hands m back, and an accepted search hands back nothing of it
   pub refusal-is : answer .refusal ≡ broken (limitsOf ghop amind freq)
-  unfolding fdistOf broken searchOf
+  unfolding fdistBy broken searchBy
   refusal-is =
       unless-refusal (broken (limitsOf ghop amind freq)) m (searchOf rfx d amind freq)
       (far-all (λ (a : Searched). a .refusal ≡ 0) far (runOf rows d amind freq) refl (run-unrefused rows d amind freq))
 
   pub refused-is : (n : ℕ) → broken (limitsOf ghop amind freq) ≡ suc n → answer ≡ refusedOf m (suc n)
-  unfolding fdistOf broken
+  unfolding fdistBy broken
   refused-is n e = rw e
 
   pub accepted-is : broken (limitsOf ghop amind freq) ≡ 0 → answer ≡ searchOf rfx d amind freq
-  unfolding fdistOf broken
+  unfolding fdistBy broken
   accepted-is e = rw e
 
   few : (answer .pairs ≤ 44) × (answer .rays ≤ 6)
-  unfolding fdistOf broken searchOf
+  unfolding fdistBy broken searchBy
   few =
       unless-all (λ (a : Searched). (a .pairs ≤ 44) × (a .rays ≤ 6)) (broken (limitsOf ghop amind freq)) m (searchOf rfx d amind freq) (λ k. (omega arith, omega arith))
       (far-all (λ (a : Searched). (a .pairs ≤ 44) × (a .rays ≤ 6)) far (runOf rows d amind freq) (omega arith, omega arith) (run-few rows d amind freq))
@@ -79,14 +79,14 @@ module _ (m : HopModes) (rfx : Reflectrix) (ghop amind freq : Float) where
   module _ (ok : broken (limitsOf ghop amind freq) ≡ 0) where
     -- "exactly the counts of the written definition's steps": the turns that compare two hop lengths, and those that accept a ray
     pub pairs-counted : answer .pairs ≡ countOf rfx ghop amind freq (triesOf rows)
-    unfolding fdistOf broken searchOf
+    unfolding fdistBy broken searchBy
     pairs-counted =
         rw ok
         (far-count (λ (a : Searched). a .pairs) far (runOf rows d amind freq) _ refl
         (run-counted rows d amind freq (triesOf rows) (λ (s : Search). s .pairs) (λ (a : Searched). a .pairs) refl (pairs-raised rows d amind freq)))
 
     pub rays-counted : answer .rays ≡ countOf rfx ghop amind freq (acceptsOf rows d amind freq)
-    unfolding fdistOf broken searchOf
+    unfolding fdistBy broken searchBy
     rays-counted =
         rw ok
         (far-count (λ (a : Searched). a .rays) far (runOf rows d amind freq) _ refl
@@ -94,7 +94,7 @@ module _ (m : HopModes) (rfx : Reflectrix) (ghop amind freq : Float) where
 
     -- "Every slot of positive height has an angle at or above the minimum."
     pub high-reaches : (n : ℕ) → lt (f32 0) (slotOf (answer .m) n .hp) ≡ true → le amind (slotOf (answer .m) n .del) ≡ true
-    unfolding fdistOf broken searchOf
+    unfolding fdistBy broken searchBy
     high-reaches = rw ok (far-all (λ (a : Searched). Reached amind (a .m)) far (runOf rows d amind freq) (empty-reached amind) (run-reached rows d amind freq) .slots)
 
     -- "Take any two neighbouring rows whose hop lengths lie strictly on either side of the asked one. If the asked one is below the farthest hop, all rows up to and including both have
@@ -106,8 +106,8 @@ module _ (m : HopModes) (rfx : Reflectrix) (ghop amind freq : Float) where
         → reaches amind (rayOf rows d freq i) ≡ true
         → before rows d amind freq i < 6
         → jumped rows d i ≡ false
-        → rayOf rows d freq i ≡ Present (slotOf (answer .m) (before rows d amind freq i))
-    unfolding fdistOf broken searchOf
+        → stands (rayOf rows d freq i) (answer .m) (before rows d amind freq i)
+    unfolding fdistBy broken searchBy
     straddle-stands i last sides below high reached room fresh =
         let g = straddle-gives rows d freq i sides in
         let tall : (j : ℕ) → j ≤ i → low rows j ≡ false = λ j k. float-not-le (f32 0) (rows .row (j + 1) .hp) (high (j + 1) (omega arith)) in

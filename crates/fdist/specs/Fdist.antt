@@ -126,8 +126,11 @@ unfoldable pub runOf : Rows → Float → Float → Float → Searched
 runOf t d amind freq = run (turnOf t d amind freq) noneOf turns start
 
 -- 919 to 921: "d ≥ dmaxkm, which is the farthest hop wherever that is spoken of, ends."
-unfoldable pub searchOf : Reflectrix → Float → Float → Float → Searched
-searchOf rfx d amind freq = cond (le (rfx .dmaxkm) d) noneOf (runOf (rowsOf rfx) d amind freq)
+unfoldable pub searchBy : Rows → Float → Float → Float → Float → Searched
+searchBy t dmaxkm d amind freq = cond (le dmaxkm d) noneOf (runOf t d amind freq)
+
+abbrev pub searchOf : Reflectrix → Float → Float → Float → Searched
+searchOf rfx d amind freq = searchBy (rowsOf rfx) (rfx .dmaxkm) d amind freq
 
 -- one limit, by its number and its test
 abbrev pub checkOf : ℕ → Bool → Float → Checked
@@ -152,6 +155,10 @@ abbrev pub unlessBroken : ℕ → HopModes → Searched → Searched
 unlessBroken zero m found = found
 unlessBroken (suc n) m found = refusedOf m (suc n)
 
--- 918: "Length d = ghop × 6370"
-unfoldable pub fdistOf : HopModes → Reflectrix → Float → Float → Float → Searched
-fdistOf m rfx ghop amind freq = unlessBroken (broken (limitsOf ghop amind freq)) m (searchOf rfx (ghop ⊗ RZ) amind freq)
+-- 918: "Length d = ghop × 6370"; over rows and their farthest hop
+unfoldable pub fdistBy : HopModes → Rows → Float → Float → Float → Float → Searched
+fdistBy m t dmaxkm ghop amind freq = unlessBroken (broken (limitsOf ghop amind freq)) m (searchBy t dmaxkm (ghop ⊗ RZ) amind freq)
+
+-- over a reflectrix
+abbrev pub fdistOf : HopModes → Reflectrix → Float → Float → Float → Searched
+fdistOf m rfx ghop amind freq = fdistBy m (rowsOf rfx) (rfx .dmaxkm) ghop amind freq

@@ -8,3 +8,4 @@ pub mod SlotLaws
 pub mod SearchLaws
 pub mod StraddleLaws
 pub mod DemandLaws
+pub mod FitLaws

@@ -1,6 +1,6 @@
 // Translated from hfcast-engine (commit bf34e8f9f3), src/voacap/modes.rs lines 195 to 206 and 909 to 1040, and changed.
 ghost use mathlib.Core.Path.{_≡_};
-ghost use Rattle.fdist.specs.Fdist.{checkOf, numberOf, refusedOf, fdistOf};
+ghost use Rattle.fdist.specs.Fdist.{rowsBy, checkOf, numberOf, refusedOf, fdistBy, fdistOf};
 use findf::Reflectrix;
 
 mod pairs;
@@ -64,9 +64,22 @@ fn refused(m: HopModes, refusal: u32) -> Searched
     }
 }
 
-// The rays of the hop length ghop, an angle at the Earth's centre in radians.
-pub fn fdist(m: HopModes, rfx: Reflectrix, ghop: f32, amind: f32, freq: f32) -> Searched
-    ensures { λ r. ⌜ r ≡ fdistOf m rfx ghop amind freq ⌝ }
+// The rays of the hop length ghop, an angle at the Earth's centre in radians, over lent columns and their farthest hop.
+pub fn fdist_over<'a>(
+    m: HopModes,
+    delfx: &'a [f32; 45],
+    hpflx: &'a [f32; 45],
+    htflx: &'a [f32; 45],
+    gdflx: &'a [f32; 45],
+    fvflx: &'a [f32; 45],
+    afflx: &'a [f32; 45],
+    imode: &'a [u32; 45],
+    dmaxkm: f32,
+    ghop: f32,
+    amind: f32,
+    freq: f32,
+) -> Searched
+    ensures { λ r. ⌜ r ≡ fdistBy m (rowsBy (now (delfx .entry)) (now (hpflx .entry)) (now (htflx .entry)) (now (gdflx .entry)) (now (fvflx .entry)) (now (afflx .entry)) (now (imode .entry))) dmaxkm ghop amind freq ⌝ }
 {
     let checked_freq = check(limits::REFUSAL_FREQ, limits::freq_within(freq), freq);
     let Checked::Within(freq) = checked_freq else {
@@ -81,10 +94,29 @@ pub fn fdist(m: HopModes, rfx: Reflectrix, ghop: f32, amind: f32, freq: f32) -> 
         return refused(m, number(checked_ghop));
     };
     let dhopkm = ghop * arith::RZ;
-    if dhopkm >= rfx.dmaxkm {
+    if dhopkm >= dmaxkm {
         return search::none();
     }
     search::search(
+        delfx,
+        hpflx,
+        htflx,
+        gdflx,
+        fvflx,
+        afflx,
+        imode,
+        dhopkm,
+        amind,
+        freq,
+    )
+}
+
+// By value: the same over its own copy of the reflectrix.
+pub fn fdist(m: HopModes, rfx: Reflectrix, ghop: f32, amind: f32, freq: f32) -> Searched
+    ensures { λ r. ⌜ r ≡ fdistOf m rfx ghop amind freq ⌝ }
+{
+    fdist_over(
+        m,
         &rfx.delfx,
         &rfx.hpflx,
         &rfx.htflx,
@@ -92,7 +124,8 @@ pub fn fdist(m: HopModes, rfx: Reflectrix, ghop: f32, amind: f32, freq: f32) -> 
         &rfx.fvflx,
         &rfx.afflx,
         &rfx.imode,
-        dhopkm,
+        rfx.dmaxkm,
+        ghop,
         amind,
         freq,
     )

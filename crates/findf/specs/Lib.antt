@@ -11,3 +11,4 @@ pub mod WalkLaws
 pub mod StepLaws
 pub mod RowsLaws
 pub mod FindfLaws
+pub mod FitLaws

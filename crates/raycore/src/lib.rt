@@ -4,6 +4,8 @@ ghost use Rattle.angles.specs.SinCos.{sinOf, cosOf};
 ghost use Rattle.angles.specs.Arcsine.{asinOf};
 ghost use Rattle.angles.specs.Arccosine.{acosOf};
 ghost use Rattle.angles.specs.Arctangent.{atanOf};
+ghost use lib.ListN.{length};
+ghost use Rattle.job.specs.Job.{refusalOf, leftOf};
 
 #[no_mangle]
 pub extern "C" fn ray_sin(x: f32) -> f32
@@ -38,4 +40,11 @@ pub extern "C" fn ray_atan(x: f32) -> f32
     ensures { λ r. ⌜ r ≡ atanOf x ⌝ }
 {
     angles::atan(x)
+}
+
+#[no_mangle]
+pub extern "C" fn ray_job(job: &[u8], answer: &mut [u8]) -> u32
+    ensures { λ r. ⌜ (r ≡ refusalOf (now (job .entry)) (length (now (answer .entry)))) × (now (answer .exit) ≡ leftOf (now (job .entry)) (now (answer .entry))) ⌝ }
+{
+    job::run(job, answer)
 }
