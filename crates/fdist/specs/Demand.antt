@@ -1,6 +1,6 @@
 -- The words of demand 3 about the search (document 01, "The words of demand 3"), by the rule on two rows and d. Rows, pairs and slots count from 0.
 use Prim.Native.Nat.{ℕ, zero, suc, _+_}
-use mathlib.Core.Bool.{Bool, false, cond, not, _&&_, _||_}
+use mathlib.Core.Bool.{Bool, true, false, cond, not, _&&_, _||_}
 use mathlib.Core.Path.{_≡_}
 use lib.Dec.{eqb}
 use lib.ListN.{getD}
@@ -24,6 +24,11 @@ rayOf t d freq i = givenOf (t .row) d freq i (pairAt t d i)
 -- "two neighbouring rows whose hop lengths lie strictly on either side of the asked one"
 abbrev pub straddles : Float → Float → Float → Bool
 straddles g1 g2 d = (lt g1 d && lt d g2) || (lt g2 d && lt d g1)
+
+-- whether two rows give a row or a spot
+abbrev pub gives : Given → Bool
+gives Absent = false
+gives (Present r) = true
 
 -- "It reaches the minimum angle where its angle is ≥ amind; NaN never is."
 abbrev pub reaches : Float → Given → Bool

@@ -12,7 +12,7 @@ use Rattle.fdist.specs.declared.HopModes.{HopModes}
 use Rattle.fdist.specs.declared.Searched.{Searched}
 use Rattle.fdist.specs.declared.rays.Given.the-variants.{Present}
 use Rattle.fdist.specs.Fdist.{Rows, rowsOf, Search, low, noneOf, runOf, searchBy, searchOf, limitsOf, refusedOf, unlessBroken, fdistBy, fdistOf}
-use Rattle.fdist.specs.Demand.{rayOf, straddles, reaches, jumped, before, slotOf, stands, triesOf, acceptsOf, countOf}
+use Rattle.fdist.specs.Demand.{rayOf, straddles, gives, reaches, jumped, before, slotOf, stands, triesOf, acceptsOf, countOf}
 use Rattle.fdist.specs.SlotLaws.{Reached, empty-reached}
 use Rattle.fdist.specs.SearchLaws.{pairs-raised, rays-raised, run-counted, run-few, run-reached, run-unrefused}
 use Rattle.fdist.specs.StraddleLaws.{run-holds, straddle-gives}
@@ -97,6 +97,10 @@ module _ (m : HopModes) (rfx : Reflectrix) (ghop amind freq : Float) where
     unfolding fdistBy broken searchBy
     high-reaches = rw ok (far-all (λ (a : Searched). Reached amind (a .m)) far (runOf rows d amind freq) (empty-reached amind) (run-reached rows d amind freq) .slots)
 
+    -- "Hop lengths strictly on either side of d always give one, and demand 3 holds that too."
+    pub straddling-gives : (i : ℕ) → straddles (rows .gd i) (rows .gd (i + 1)) d ≡ true → gives (rayOf rows d freq i) ≡ true
+    straddling-gives i sides = rw (straddle-gives rows d freq i sides .1)
+
     -- "Take any two neighbouring rows whose hop lengths lie strictly on either side of the asked one. If the asked one is below the farthest hop, all rows up to and including both have
     -- positive heights, their ray reaches the minimum angle, fewer than six rays came before and no "second row" hit jumped them, then their ray stands in the answer, in the slot next
     -- after those that came before." Floats have one NaN here, so the equation of the two rays takes all NaNs as equal.
@@ -110,6 +114,6 @@ module _ (m : HopModes) (rfx : Reflectrix) (ghop amind freq : Float) where
     unfolding fdistBy broken searchBy
     straddle-stands i last sides below high reached room fresh =
         let g = straddle-gives rows d freq i sides in
-        let tall : (j : ℕ) → j ≤ i → low rows j ≡ false = λ j k. float-not-le (f32 0) (rows .row (j + 1) .hp) (high (j + 1) (omega arith)) in
+        let tall : (j : ℕ) → j ≤ i → jumped rows d j ≡ false → low rows j ≡ false = λ j k _. float-not-le (f32 0) (rows .row (j + 1) .hp) (high (j + 1) (omega arith)) in
         let holds = run-holds rows d amind freq i (g .0) last tall fresh (g .1) (rw (g .1) at reached) room in
         rw (ok, float-not-le d (rfx .dmaxkm) below) (g .1 ∙ ap Present (sym holds))

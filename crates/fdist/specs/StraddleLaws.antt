@@ -61,7 +61,7 @@ module _ (t : Rows) (d amind freq : Float) where
       in
       rw e (omega (arith, before-mono k a, g))
 
-  module _ (i : ℕ) (r : Ray) (last : i < 44) (high : (j : ℕ) → j ≤ i → low t j ≡ false) (fresh : jumped t d i ≡ false)
+  module _ (i : ℕ) (r : Ray) (last : i < 44) (high : (j : ℕ) → j ≤ i → jumped t d j ≡ false → low t j ≡ false) (fresh : jumped t d i ≡ false)
       (gives : rayOf t d freq i ≡ Present r) (reached : le amind (r .del) ≡ true) (few : before t d amind freq i < 6) where
     -- on the way to pair i: at a pair that is not jumped, with the rays before it accepted
     record Coming (at rays : ℕ) : Type 0 where
@@ -124,15 +124,15 @@ module _ (t : Rows) (d amind freq : Float) where
         let same : x ≡ r = cc (ap (rayOf t d freq) e, gives) in
         rw (← n) (put-same (s .m) (s .rays) x (x .hp) z (rw n few) ∙ same)
 
-    early : (s : Search) → s .at ≤ i → (44 ≤ s .at) ⊎ (low t (s .at) ≡ true) → ⊥
-    early s h (inl k) = omega arith
-    early s h (inr k) = no (sym (high (s .at) h) ∙ k)
+    early : (s : Search) → Coming (s .at) (s .rays) → (44 ≤ s .at) ⊎ (low t (s .at) ≡ true) → ⊥
+    early s c (inl k) = omega (arith, c .on-way)
+    early s c (inr k) = no (sym (high (s .at) (c .on-way) (c .not-jumped)) ∙ k)
 
     here-keeps : (s : Search) → Coming (s .at) (s .rays) → Sized (s .m) → s .at ≡ i → Ways t d amind freq s Kept-so
     here-keeps s c z e =
         let n : s .rays ≡ before t d amind freq i = c .counted ∙ ap (before t d amind freq) e in
         let g : rayOf t d freq (s .at) ≡ Present r = ap (rayOf t d freq) e ∙ gives in record {
-          ends = λ k. absurd (early s (c .on-way) k);
+          ends = λ k. absurd (early s c k);
           passes = λ w a. let x : _≡_ {A = ℕ} 0 1 = cc in absurd (omega arith);
           sixth = λ x w p a k. hit s z e n x p;
           accepts = λ x w p a k. inr (record { past = omega arith; holds = hit s z e n x p });
@@ -147,7 +147,7 @@ module _ (t : Rows) (d amind freq : Float) where
 
     way-keeps : (s : Search) → Coming (s .at) (s .rays) → Sized (s .m) → s .at < i → Ways t d amind freq s Kept-so
     way-keeps s c z h = record {
-      ends = λ k. absurd (early s (c .on-way) k);
+      ends = λ k. absurd (early s c k);
       passes = λ w e. inl (next-same c h (rw e), z);
       sixth = λ x w e a k. absurd (omega (arith, room (next-more c h (rw (e, a)))));
       accepts = λ x w e a k. inl (next-more c h (rw (e, a)), put-sized (s .m) (s .rays) x (x .hp) z);

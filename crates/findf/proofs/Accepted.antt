@@ -1,8 +1,8 @@
 -- What the answers of the checks show.
 use mathlib.Core.Path.{_≡_, refl}
 use Prim.Native.Nat.{ℕ, zero, suc, _≤_, _<_}
-use mathlib.Core.Bool.{Bool, true, false, cond}
-use mathlib.Core.List.{List, [], _∷_}
+use mathlib.Core.Bool.{Bool, true, false}
+use mathlib.Core.List.{List}
 use native.Mathlib.Omega.{arith}
 use lib.ListN.{getD}
 use lib.Dec.{leb}
@@ -11,23 +11,12 @@ use lib.Ieee.{Float}
 use borrow.Author.Count.{below-more}
 use borrow.Author.Tests.{leb-true}
 use Rattle.limits.specs.Limits.{entriesWithin, broken, kWithin, freqWithin, ifobWithin}
-use Rattle.limits.specs.LimitsLaws.{both}
+use Rattle.limits.specs.LimitsLaws.{both, unbroken}
 use Rattle.findf.specs.Look.{Entry, Entries}
 use Rattle.findf.specs.Findf.{startedOf, limitsOf, admissionBy, numberOf, refusedOf, findfBy}
-use Rattle.findf.specs.FindfLaws.{unbroken}
 use Rattle.findf.specs.declared.checks.Admission.{Admission}
 use Rattle.findf.specs.declared.checks.Admission.the-variants.{Granted, Refused}
 use Rattle.findf.specs.declared.Reflectrix.{Reflectrix}
-
--- the first broken limit, by one test and what the limits after it give
-pub kept : (n : ℕ) (b : Bool) (ls : List (ℕ × Bool)) {x : Bool} {later r : ℕ} → r ≡ cond x later n → x ≡ b → later ≡ broken ls → r ≡ broken ((n, b) ∷ ls)
-unfolding broken
-kept n true ls e x l = rw (e, x, l)
-kept n false ls e x l = rw (e, x)
-
-pub kept-last : (n : ℕ) (b : Bool) {x : Bool} {r : ℕ} → r ≡ cond x 0 n → x ≡ b → r ≡ broken ((n, b) ∷ [])
-unfolding broken
-kept-last n b e x = kept n b [] e x refl
 
 module _ (second third : Float) where
   -- a number that is not 0 is that of a refusal

@@ -5,7 +5,7 @@
 use mathlib.Core.Path.{_≡_, refl, sym, subst, _∙_}
 use mathlib.Core.Bool.{Bool, true, false}
 use mathlib.Core.List.{List, [], _∷_}
-use Prim.Native.Nat.{ℕ, suc, _+_, _≤_}
+use Prim.Native.Nat.{ℕ, zero, suc, _+_, _≤_, _<_}
 use native.Mathlib.Nat.{zero-add}
 use native.Mathlib.Omega.{arith}
 use lib.ListN.{getD}
@@ -15,22 +15,19 @@ use borrow.Author.Tests.{leb-true}
 use Rattle.arith.specs.Floats.{_⊗_}
 use Rattle.arith.specs.Run.{count, iterate}
 use Rattle.limits.specs.Limits.{broken}
-use Rattle.findf.specs.Penang.{penangOf}
+use Rattle.limits.specs.LimitsLaws.{unbroken}
+use Rattle.findf.specs.Penang.{0·0, penangOf}
 use Rattle.findf.specs.Walk.{start}
 use Rattle.findf.specs.Findf.{Inputs, State, inputsOf, jfhzOf, stepOf, turnOf, walkOf, walkedOf, begun, startedOf, limitsOf, admissionBy, admissionOf, findfBy, findfOf}
-use Rattle.findf.specs.StepLaws.{lookTurns, rowsDue, rows-iterate, walk-iterate, walk-resumes, walk-few, fill-few, walk-looks, walk-rows}
-use Rattle.findf.specs.RowsLaws.{rowAt, Sized, RowIs, sized-throughout, begun-sized, filled-stays, beyond-zero, begun-beyond}
+use Rattle.findf.specs.Demand as demand
+use Rattle.findf.specs.Demand.{lookTurns, rowsDue, rowAt, RowIs}
+use Rattle.findf.specs.StepLaws.{rows-iterate, walk-iterate, walk-resumes, walk-few, fill-few, walk-looks, walk-rows}
+use Rattle.findf.specs.RowsLaws.{Sized, sized-throughout, begun-sized, filled-stays, Beyond, beyond-zero, begun-beyond}
 use Rattle.findf.specs.declared.penang.Penetration.{Penetration}
 use Rattle.findf.specs.declared.walk.Label.the-variants.{Fill}
 use Rattle.findf.specs.declared.walk.Fill as F
 use Rattle.findf.specs.declared.Reflectrix.{Reflectrix}
 use Rattle.findf.specs.declared.Walked.{Walked}
-
--- a list of limits with none broken: the first is passed, and none of the others is broken
-pub unbroken : (n : ℕ) (b : Bool) (ls : List (ℕ × Bool)) → broken ((suc n, b) ∷ ls) ≡ 0 → (b ≡ true) × (broken ls ≡ 0)
-unfolding broken
-unbroken n true ls e = (refl, e)
-unbroken n false ls e = absurd (omega arith)
 
 module _ (r : Reflectrix) (k nang : ℕ) (freq amind : Float) (fi : List (List Float)) (fvert hprim htrue afac : List Float) (ifob : List ℤ) where
   abbrev pub Accepted : Type 0
@@ -39,25 +36,18 @@ module _ (r : Reflectrix) (k nang : ℕ) (freq amind : Float) (fi : List (List F
   abbrev pub answerOf : Walked
   answerOf = findfOf r k nang freq amind fi fvert hprim htrue afac ifob
 
-  abbrev fi1 : Float
-  fi1 = getD (getD fi k []) 1 nan
-
-  abbrev fi2 : Float
-  fi2 = getD (getD fi k []) 2 nan
-
   abbrev p : Penetration
-  p = penangOf fvert htrue fi1 freq
+  p = penangOf fvert htrue (getD (getD fi k []) 1 nan) freq
 
-  -- what the job's walk reads, and the reflectrix it starts with
-  abbrev pub read : Inputs
-  read = inputsOf nang freq amind (jfhzOf freq) fi1 (fi2 ⊗ fi2) (p .delpen) fvert hprim htrue afac ifob
+  -- what the walk reads, what it starts with, and its state after n steps
+  abbrev read : Inputs
+  read = demand.read r k nang freq amind fi fvert hprim htrue afac ifob
 
-  abbrev pub first : Reflectrix
-  first = begun r p
+  abbrev first : Reflectrix
+  first = demand.first r k nang freq amind fi fvert hprim htrue afac ifob
 
-  -- the state after n steps
-  abbrev pub stateAt : ℕ → State
-  stateAt n = iterate n (stepOf read) (start, first)
+  abbrev stateAt : ℕ → State
+  stateAt = demand.stateAt r k nang freq amind fi fvert hprim htrue afac ifob
 
   -- its `rows` is the number of the fills among them
   pub row-number : (n : ℕ) → stateAt n .0 .rows ≡ count (turnOf read) rowsDue n (start, first)
@@ -105,3 +95,36 @@ module _ (r : Reflectrix) (k nang : ℕ) (freq amind : Float) (fi : List (List F
         rw findf-walks
         (subst (λ (t : State). RowIs (s .0 .rows) (rowAt read fill (s .0) (s .1)) (t .1)) (walk-resumes read nang-cap first n 431 (omega arith))
         (filled-stays read s fill l (sized-throughout read first (begun-sized r p z) n) (omega (arith, fill-few read nang-cap first n fill l, nang-cap)) 430))
+
+    -- heights are +0 from the first row that is not written on
+    pub answer-beyond : (j : ℕ) → answerOf .rfx .«rows_this_call» ≤ j → j < 45 → getD (answerOf .rfx .hpflx) j nan ≡ 0·0
+    unfolding walkedOf
+    answer-beyond j h l =
+        let b : Beyond (walkOf read first) = subst Beyond (sym (walk-iterate read nang-cap first 430 (omega arith))) (beyond-zero read first (begun-beyond r p) 430) in
+        rw findf-walks (b .zero-hp j (omega (arith, rows-counted, rw findf-walks at h)) l)
+
+    -- columns of 45 rows stay so
+    pub answer-sized : Sized r → Sized (answerOf .rfx)
+    unfolding walkedOf
+    answer-sized z =
+        rw findf-walks
+        (subst (λ (s : State). Sized (s .1)) (sym (walk-iterate read nang-cap first 430 (omega arith))) (sized-throughout read first (begun-sized r p z) 430))
+
+  -- ---- the answer's number, and what a refusal leaves
+  refusal-by : (n : ℕ) (second third : Float) → findfBy r nang freq amind fvert hprim htrue afac ifob (admissionBy n second third) .refusal ≡ n
+  unfolding findfBy admissionBy startedOf walkedOf
+  refusal-by zero second third = refl
+  refusal-by (suc n) second third = refl
+
+  pub findf-refusal : answerOf .refusal ≡ broken (limitsOf k nang freq amind (getD fi k []) fvert hprim htrue afac ifob)
+  unfolding findfOf admissionOf
+  findf-refusal = refusal-by _ _ _
+
+  turned-by : (n : ℕ) (second third : Float) → (n ≡ 0 → ⊥) → findfBy r nang freq amind fvert hprim htrue afac ifob (admissionBy n second third) .rfx ≡ r
+  unfolding findfBy admissionBy
+  turned-by zero second third h = absurd (h refl)
+  turned-by (suc n) second third h = refl
+
+  pub findf-turned : (Accepted → ⊥) → answerOf .rfx ≡ r
+  unfolding findfOf admissionOf
+  findf-turned h = turned-by _ _ _ h

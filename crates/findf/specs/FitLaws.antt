@@ -15,6 +15,7 @@ use Rattle.arith.specs.Floats.{f32, _⊕_, _⊖_, _⊗_, _⊘_, RZ, R2D, absOf}
 use Rattle.arith.specs.Run.{iterate}
 use Rattle.arith.specs.RunLaws.{iterate-keeps}
 use Rattle.limits.specs.Limits.{broken}
+use Rattle.limits.specs.LimitsLaws.{unbroken}
 use Rattle.root.specs.Root.{sqrtOf}
 use Rattle.angles.specs.Arccosine.{acosOf}
 use Rattle.findf.specs.Penang.{0·0, 1·0, 0·0001, 0·9999, 0·999999, 89·9, 90·0, fratOf, angleOf, cuspOf, xmOf, cdelOf, penetration, topOf, f2Of, f1Of, penangOf}
@@ -22,7 +23,8 @@ use Rattle.findf.specs.Walk.{ANG, angOf, start, searchBy, searchOf, next
 use Rattle.findf.specs.Rows.{rawOf, nextModeOf, modeOf, highOf, correctedOf, rowOf}
 use Rattle.findf.specs.Findf.{Inputs, State, fillOf, stepBy, stepOf, begun, walkOf, walkedOf, limitsOf, findfOf}
 use Rattle.findf.specs.StepLaws.{walk-iterate}
-use Rattle.findf.specs.RowsLaws.{rowAt}
+use Rattle.findf.specs.Demand as demand
+use Rattle.findf.specs.Demand.{rowAt}
 use Rattle.findf.specs.FindfLaws as laws
 use Rattle.findf.specs.declared.penang.Penetration.{Penetration}
 use Rattle.findf.specs.declared.look.Looked.{Looked}
@@ -292,9 +294,9 @@ module _ (r : Reflectrix) (k nang : ℕ) (freq amind : Float) (fi : List (List F
       → Fitting (findfOf r k nang freq amind fi fvert hprim htrue afac ifob .rfx)
   unfolding walkedOf limitsOf
   walked-fits ok a b c was =
-      let e = laws.read r k nang freq amind fi fvert hprim htrue afac ifob in
-      let first = laws.first r k nang freq amind fi fvert hprim htrue afac ifob in
-      let few : nang ≤ 40 = leb-true nang 40 (laws.unbroken _ _ _ (laws.unbroken _ _ _ ok .1) .0) in
+      let e = demand.read r k nang freq amind fi fvert hprim htrue afac ifob in
+      let first = demand.first r k nang freq amind fi fvert hprim htrue afac ifob in
+      let few : nang ≤ 40 = leb-true nang 40 (unbroken _ _ _ (unbroken _ _ _ ok .1) .0) in
       let read : Read e = record { fvert-read = a; htrue-read = b; afac-read = c; delpen-read = penang-angled fvert htrue (getD (getD fi k []) 1 nan) freq .angles } in
       let all = iterate-keeps (stepOf e) Kept (kept-step e read) 430 (start, first) (record { low = omega arith; fit = begun-fits r (penangOf fvert htrue (getD (getD fi k []) 1 nan) freq) was }) in
       rw (laws.findf-walks r k nang freq amind fi fvert hprim htrue afac ifob ok) (subst (λ (s : State). Fitting (s .1)) (sym (walk-iterate e few first 430 (omega arith))) (all .fit))

@@ -7,6 +7,7 @@ pub mod Rows
 pub mod Ahead
 pub mod Checks
 pub mod Findf
+pub mod Demand
 pub mod WalkLaws
 pub mod StepLaws
 pub mod RowsLaws

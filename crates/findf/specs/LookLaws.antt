@@ -6,11 +6,12 @@ use Prim.Native.Nat.{ℕ, suc, _+_, _-_, _≤_, _<_}
 use native.Mathlib.Omega.{arith}
 use lib.IntN.{ℤ}
 use borrow.Author.Tests.{leb-false}
-use Rattle.arith.specs.Run.{Next, count}
+use Rattle.arith.specs.Run.{Next}
 use Rattle.arith.specs.RunLaws.{Kept, run-keeps, Lessens, Raised, run-same, run-counts}
 use Rattle.arith.specs.Run as Run
 use Rattle.findf.specs.Look.{looked, lookBy, lookOf, looksOf}
 use Rattle.findf.specs.Safe.{interpolates}
+use Rattle.findf.specs.Demand.{turnsFrom}
 use Rattle.findf.specs.declared.look.Looked.{Looked}
 use Rattle.findf.specs.declared.walk.Label.{Label}
 use Rattle.findf.specs.declared.walk.Label.the-variants.{Search, NextLayer, Fill, NextCusp, Done}
@@ -101,11 +102,7 @@ module _ (ifob : List ℤ) (jfhz column ilow ihigh : ℕ) where
   unfolding lookOf
   look-raises s p = by-raises _ _ _ _ _ (s .0) (s .1)
 
-  -- the turns of the inner loop from row ih
-  abbrev pub turnsFrom : ℕ → ℕ → ℕ
-  turnsFrom ih looks = count (lookOf ifob jfhz column ilow ihigh) (λ _. 1) (suc (ihigh - ih)) (ih, looks)
-
-  pub looks-are-turns : (ih looks : ℕ) → looksOf ifob jfhz column ilow ihigh ih looks .looks ≡ looks + turnsFrom ih looks
+  pub looks-are-turns : (ih looks : ℕ) → looksOf ifob jfhz column ilow ihigh ih looks .looks ≡ looks + turnsFrom ifob jfhz column ilow ihigh ih looks
   unfolding looksOf
   looks-are-turns ih looks =
       run-counts (lookOf ifob jfhz column ilow ihigh) any left look-less (λ s. omega arith) (λ _. 1) counted answered look-raises (looked Search ih looks)

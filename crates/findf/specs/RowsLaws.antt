@@ -17,8 +17,8 @@ use Rattle.arith.specs.Run.{iterate}
 use Rattle.arith.specs.RunLaws.{iterate-keeps}
 use Rattle.findf.specs.Penang.{0·0}
 use Rattle.findf.specs.Walk.{start}
-use Rattle.findf.specs.Safe.{due}
-use Rattle.findf.specs.Rows.{rowOf, farOf}
+use Rattle.findf.specs.Demand.{due, rowAt, RowIs}
+use Rattle.findf.specs.Rows.{farOf}
 use Rattle.findf.specs.Findf.{Inputs, State, fillOf, stepBy, stepOf, unlessOf, begun}
 use Rattle.findf.specs.StepLaws.{step-rows}
 use Rattle.findf.specs.declared.penang.Penetration.{Penetration}
@@ -28,11 +28,6 @@ use Rattle.findf.specs.declared.walk.Label.the-variants.{Search, NextLay
 use Rattle.findf.specs.declared.walk.Fill as F
 use Rattle.findf.specs.declared.rows.Row.{Row}
 use Rattle.findf.specs.declared.Reflectrix.{Reflectrix}
-
--- the row that a fill writes
-abbrev pub rowAt : Inputs → F.Fill → Walk → Reflectrix → Row
-rowAt e fill w r =
-    rowOf (e .fvert) (e .hprim) (e .htrue) (e .afac) (e .ifob) (e .delpen) (r .delfx) (e .fi1) (e .fc2) (e .freq) (e .jfhz) fill w
 
 -- row j of r' is row j of r
 pub record SameRow (j : ℕ) (r r' : Reflectrix) : Type 0 where
@@ -53,16 +48,6 @@ pub record Sized (r : Reflectrix) : Type 0 where
   pub len-fv : length (r .fvflx) ≡ 45
   pub len-af : length (r .afflx) ≡ 45
   pub len-mode : length (r .imode) ≡ 45
-
--- row i of r is t
-pub record RowIs (i : ℕ) (t : Row) (r : Reflectrix) : Type 0 where
-  pub is-del : getD (r .delfx) i nan ≡ t .del
-  pub is-hp : getD (r .hpflx) i nan ≡ t .hp
-  pub is-ht : getD (r .htflx) i nan ≡ t .ht
-  pub is-gdr : getD (r .gdflx) i nan ≡ t .gdr
-  pub is-fv : getD (r .fvflx) i nan ≡ t .fv
-  pub is-af : getD (r .afflx) i nan ≡ t .af
-  pub is-mode : getD (r .imode) i 0 ≡ t .mode
 
 module _ (e : Inputs) (fill : F.Fill) (w : Walk) (r : Reflectrix) where
   -- a fill writes row `rows`, counted from 0,

@@ -1,5 +1,6 @@
 -- What a state must satisfy for the code of its label to stay inside the tables: ranges alone, which a program can test.
 use Prim.Native.Nat.{ℕ, _+_, _≤_}
+use Rattle.findf.specs.Demand.{due}
 use Rattle.findf.specs.declared.walk.Walk.{Walk}
 use Rattle.findf.specs.declared.walk.Label.{Label}
 use Rattle.findf.specs.declared.walk.Label.the-variants.{Search, NextLayer, Fill, NextCusp, Done}
@@ -27,14 +28,6 @@ interpolates = byLabel 0 1 0 0 0 0 0 0
 -- 1 where the row after ihigh and the row written last are read
 abbrev pub follows : Label → ℕ
 follows = byLabel 0 0 0 1 0 0 0 0
-
--- 1 where a row is to be written
-abbrev pub due : Label → ℕ
-due (Fill fill) = 1
-due Search = 0
-due NextLayer = 0
-due NextCusp = 0
-due Done = 0
 
 -- The label stands as an argument of its own, beside the state that has it, so that a proof can go by its cases.
 pub record Safe (l : Label) (w : Walk) : Type 0 where

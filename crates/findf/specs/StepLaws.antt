@@ -17,9 +17,9 @@ use Rattle.arith.specs.Floats.{_⊖_}
 use Rattle.arith.specs.Run.{rest, run, count, iterate, until, stopBy}
 use Rattle.arith.specs.RunLaws.{Lessens, Raised, Kept, run-same, run-keeps, run-counts, run-iterate, iterate-add, iterate-fixed, iterate-keeps}
 use Rattle.findf.specs.Penang.{0·0}
-use Rattle.findf.specs.LookLaws.{turnsFrom, looks-are-turns}
+use Rattle.findf.specs.LookLaws.{looks-are-turns}
 use Rattle.findf.specs.Walk.{89·99, angOf, searchBy, searchOf, nextLayerBy, nextLayerOf, nextCuspBy, nextCuspOf, filledBy, filledOf, withLabel, doneAt, start}
-use Rattle.findf.specs.Safe.{due}
+use Rattle.findf.specs.Demand.{turnsFrom, turnsBy, turnsAt, lookTurns, due, rowsDue}
 use Rattle.findf.specs.WalkLaws.{Good, μ, step-fine, few-looks, few-rows, good-start}
 use Rattle.findf.specs.Findf.{Inputs, State, stepBy, stepOf, turnOf, walkOf}
 use Rattle.findf.specs.declared.look.Looked.{Looked}
@@ -46,31 +46,6 @@ unfolding stepOf
 done-fixed e s d = done-fixed-at e (s .0 .label) (s .0) (s .1) d
 
 -- ---- what a step adds to the counts
--- by the four tests of a search: the looks that follow, or none
-abbrev pub turnsBy : Bool → Bool → Bool → Bool → ℕ → ℕ
-turnsBy true over beyond cusp n = 0
-turnsBy false true beyond cusp n = 0
-turnsBy false false true cusp n = 0
-turnsBy false false false true n = 0
-turnsBy false false false false n = n
-
--- the turns of the inner loop in the step from a state
-unfoldable pub turnsAt : Inputs → Label → Walk → ℕ
-turnsAt e Search w =
-    let del = getD (e .delpen) (w .il - 1) nan in
-    turnsBy (le del 0·0) (lt 89·99 del) (leb (e .nang) (w .ia)) (le (del ⊖ angOf (w .ia)) 0·0)
-    (turnsFrom (e .ifob) (e .jfhz) (w .ia * 30) (w .ilow) (w .ihigh) (w .ih) (w .looks))
-turnsAt e NextLayer w = 0
-turnsAt e (Fill fill) w = 0
-turnsAt e NextCusp w = 0
-turnsAt e Done w = 0
-
-abbrev pub lookTurns : Inputs → State → ℕ
-lookTurns e s = turnsAt e (s .0 .label) (s .0)
-
-abbrev pub rowsDue : State → ℕ
-rowsDue s = due (s .0 .label)
-
 module _ (w : Walk) where
   search-looks : (dead over beyond cusp : Bool) (l : Looked) (n : ℕ) → l .looks ≡ w .looks + n → searchBy dead over beyond cusp w l .looks ≡ w .looks + turnsBy dead over beyond cusp n
   unfolding searchBy

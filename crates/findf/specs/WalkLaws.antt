@@ -11,7 +11,8 @@ use lib.Ieee.{Float}
 use borrow.Author.Tests.{leb-false, eqb-true}
 use Rattle.findf.specs.LookLaws.{Seen, Looks, looks-leave}
 use Rattle.findf.specs.Walk.{searchBy, searchOf, nextLayerBy, nextLayerOf, nextCuspBy, nextCuspOf, backOf, filledBy, filledOf, doneAt, start}
-use Rattle.findf.specs.Safe.{byLabel, takes, interpolates, follows, due, Safe}
+use Rattle.findf.specs.Safe.{byLabel, takes, interpolates, follows, Safe}
+use Rattle.findf.specs.Demand.{due}
 use Rattle.findf.specs.Findf.{Inputs, stepBy}
 use Rattle.findf.specs.declared.look.Looked.{Looked}
 use Rattle.findf.specs.declared.walk.Walk.{Walk}

@@ -1,4 +1,4 @@
--- Document 01, "The bytes of a job": the ranges 3 to 13, each by its number, its sentence and a test that computes. "Ends are included."
+-- Document 01, "The bytes of a job": the numbers of the refusals, and the ranges 3 to 13, each by its sentence and a test that computes. "Ends are included."
 use Prim.Native.Nat.{ℕ, zero, suc, _+_}
 use mathlib.Core.Bool.{Bool, true, false, _&&_}
 use mathlib.Core.List.{List, [], _∷_}
@@ -18,6 +18,13 @@ unfoldable pub broken : List (ℕ × Bool) → ℕ
 broken [] = 0
 broken ((n, true) ∷ ls) = broken ls
 broken ((n, false) ∷ ls) = n
+
+-- 1. and 2.: the job, or the answer, has another length than its layout
+abbrev pub refusalJob : ℕ
+refusalJob = 1
+
+abbrev pub refusalAnswer : ℕ
+refusalAnswer = 2
 
 -- 3. "k, a point counted from 0, is above 4."
 abbrev pub refusalK : ℕ

@@ -1,4 +1,4 @@
-// The ranges that a job, `accumulate` and `prbmuf` are held to, each with the number of its refusal (document 01, "The bytes of a job", 3 to 13).
+// The ranges that a job, `accumulate` and `prbmuf` are held to, each with the number of its refusal (document 01, "The bytes of a job"). Limits 1 and 2 are lengths: a call's own layout has them, and here are their numbers.
 ghost use mathlib.Core.Path.{_≡_};
 ghost use Rattle.limits.specs.Limits.{kWithin, nangWithin, freqWithin, amindWithin, ghopWithin, fiWithin};
 ghost use Rattle.limits.specs.Limits.{fvertWithin, hprimWithin, htrueWithin, afacWithin, entriesWithin};
@@ -6,6 +6,10 @@ ghost use Rattle.limits.specs.Limits.{slotsWithin, countWithin, layerWit
 ghost use Rattle.limits.specs.Limits as meant;
 
 // The numbers of the refusals; those of the definitions have the same names.
+pub const REFUSAL_JOB: u32 = 1;
+
+pub const REFUSAL_ANSWER: u32 = 2;
+
 pub const REFUSAL_K: u32 = 3;
 
 pub const REFUSAL_NANG: u32 = 4;

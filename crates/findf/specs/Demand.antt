@@ -1,0 +1,97 @@
+-- Document 01, "The words of demand 3", of a walk: "Looks are the turns of the inner loop, rows those written". What each step adds to the two counts, the walk's start, the state after n
+-- steps, and the row that a fill writes.
+use mathlib.Core.Path.{_≡_}
+use mathlib.Core.Bool.{Bool, true, false}
+use mathlib.Core.List.{List, []}
+use Prim.Native.Nat.{ℕ, suc, _-_, _*_}
+use lib.Dec.{leb}
+use lib.ListN.{getD}
+use lib.IntN.{ℤ}
+use lib.Ieee.{Float, nan, lt, le}
+use Rattle.arith.specs.Floats.{_⊖_, _⊗_}
+use Rattle.arith.specs.Run.{count, iterate}
+use Rattle.findf.specs.Penang.{0·0, penangOf}
+use Rattle.findf.specs.Look.{lookOf}
+use Rattle.findf.specs.Walk.{89·99, angOf, start}
+use Rattle.findf.specs.Rows.{rowOf}
+use Rattle.findf.specs.Findf.{Inputs, State, inputsOf, jfhzOf, stepOf, begun}
+use Rattle.findf.specs.declared.penang.Penetration.{Penetration}
+use Rattle.findf.specs.declared.walk.Walk.{Walk}
+use Rattle.findf.specs.declared.walk.Label.{Label}
+use Rattle.findf.specs.declared.walk.Label.the-variants.{Search, NextLayer, Fill, NextCusp, Done}
+use Rattle.findf.specs.declared.walk.Fill as F
+use Rattle.findf.specs.declared.rows.Row.{Row}
+use Rattle.findf.specs.declared.Reflectrix.{Reflectrix}
+
+-- "a look is one turn of the inner loop": its turns from row ih, at the angle whose entries start at `column`
+abbrev pub turnsFrom : List ℤ → ℕ → ℕ → ℕ → ℕ → ℕ → ℕ → ℕ
+turnsFrom ifob jfhz column ilow ihigh ih looks = count (lookOf ifob jfhz column ilow ihigh) (λ _. 1) (suc (ihigh - ih)) (ih, looks)
+
+-- by the four tests of a search (lines 727 to 747: next layer, end of all, beyond nang, cusp): the looks that follow, or none
+abbrev pub turnsBy : Bool → Bool → Bool → Bool → ℕ → ℕ
+turnsBy true over beyond cusp n = 0
+turnsBy false true beyond cusp n = 0
+turnsBy false false true cusp n = 0
+turnsBy false false false true n = 0
+turnsBy false false false false n = n
+
+-- the turns of the inner loop in the step from a state
+unfoldable pub turnsAt : Inputs → Label → Walk → ℕ
+turnsAt e Search w =
+    let del = getD (e .delpen) (w .il - 1) nan in
+    turnsBy (le del 0·0) (lt 89·99 del) (leb (e .nang) (w .ia)) (le (del ⊖ angOf (w .ia)) 0·0)
+    (turnsFrom (e .ifob) (e .jfhz) (w .ia * 30) (w .ilow) (w .ihigh) (w .ih) (w .looks))
+turnsAt e NextLayer w = 0
+turnsAt e (Fill fill) w = 0
+turnsAt e NextCusp w = 0
+turnsAt e Done w = 0
+
+abbrev pub lookTurns : Inputs → State → ℕ
+lookTurns e s = turnsAt e (s .0 .label) (s .0)
+
+-- 1 where the step writes a row
+abbrev pub due : Label → ℕ
+due (Fill fill) = 1
+due Search = 0
+due NextLayer = 0
+due NextCusp = 0
+due Done = 0
+
+abbrev pub rowsDue : State → ℕ
+rowsDue s = due (s .0 .label)
+
+module _ (r : Reflectrix) (k nang : ℕ) (freq amind : Float) (fi : List (List Float)) (fvert hprim htrue afac : List Float) (ifob : List ℤ) where
+  abbrev second : Float
+  second = getD (getD fi k []) 1 nan
+
+  abbrev third : Float
+  third = getD (getD fi k []) 2 nan
+
+  abbrev angles : Penetration
+  angles = penangOf fvert htrue second freq
+
+  -- what an accepted job's walk reads, and the reflectrix it starts with
+  abbrev pub read : Inputs
+  read = inputsOf nang freq amind (jfhzOf freq) second (third ⊗ third) (angles .delpen) fvert hprim htrue afac ifob
+
+  abbrev pub first : Reflectrix
+  first = begun r angles
+
+  -- the state after n steps
+  abbrev pub stateAt : ℕ → State
+  stateAt n = iterate n (stepOf read) (start, first)
+
+-- the row that a fill writes
+abbrev pub rowAt : Inputs → F.Fill → Walk → Reflectrix → Row
+rowAt e fill w r =
+    rowOf (e .fvert) (e .hprim) (e .htrue) (e .afac) (e .ifob) (e .delpen) (r .delfx) (e .fi1) (e .fc2) (e .freq) (e .jfhz) fill w
+
+-- row i of r is t
+pub record RowIs (i : ℕ) (t : Row) (r : Reflectrix) : Type 0 where
+  pub is-del : getD (r .delfx) i nan ≡ t .del
+  pub is-hp : getD (r .hpflx) i nan ≡ t .hp
+  pub is-ht : getD (r .htflx) i nan ≡ t .ht
+  pub is-gdr : getD (r .gdflx) i nan ≡ t .gdr
+  pub is-fv : getD (r .fvflx) i nan ≡ t .fv
+  pub is-af : getD (r .afflx) i nan ≡ t .af
+  pub is-mode : getD (r .imode) i 0 ≡ t .mode
