@@ -53,14 +53,14 @@ fn number(c: Checked) -> u32
 }
 
 // Refused: the slots as they were.
-fn refused(m: HopModes, refusal: u32) -> Searched
-    ensures { λ r. ⌜ r ≡ refusedOf m refusal ⌝ }
+fn refused(kept: HopModes, refusal: u32) -> Searched
+    ensures { λ r. ⌜ r ≡ refusedOf kept refusal ⌝ }
 {
     Searched {
         refusal,
         pairs: 0,
         rays: 0,
-        m,
+        m: kept,
     }
 }
 
