@@ -7,24 +7,23 @@ use lib.Ieee.{Float, binary32, nan, toBits}
 use Rattle.arith.specs.Floats.{f32}
 use Rattle.fnorml.specs.Fnorml.{fnormlOf}
 use Rattle.sigdis.specs.Prbmuf.{prbmufOf, refusalOf, leftOf}
-use Rattle.findf.specs.Findf.{findfOf}
-use Rattle.findf.specs.declared.Walked.{Walked}
 use Rattle.findf.specs.declared.Reflectrix.{Reflectrix}
 use Rattle.fdist.specs.Fdist.{fdistOf}
 use Rattle.fdist.specs.declared.Searched.{Searched}
-use Rattle.fdist.specs.declared.HopModes.{HopModes}
+use Rattle.job.specs.Parts.{partsBy}
+use Rattle.job.specs.Solved.{Solved, allZero, noSlots, solvedOf}
 
--- what a case says of the answer: rows and looks of a walk, angles and figures of its reflectrix, pairs and rays of a search, heights and layers of its slots; a place counts from 0
+-- what a case says of the answer: rows and looks of a walk, angles and figures of its reflectrix, pairs and rays of a search, angles, heights and layers of its slots; a place counts from 0
 pub data Field : Type 0 where
   rows looks dskpkm dmaxkm pairs rays : Field
-  delpen delfx imode hpmod itmod : ℕ → Field
+  delpen delfx imode delmod hpmod itmod : ℕ → Field
 
 pub data Case : Type 0 where
   -- ypx; the curve there
   fnorml : (ypx curve : ℕ) → Case
   -- fmhz, fgo, fset and il, where all deciles are 1; the chance
   prbmuf : (fmhz fgo fset il chance : ℕ) → Case
-  -- all-zero tables but for fvert 10, freq 2, fi's third 1: the walk from the all-zero reflectrix with nang angles, and the search on what it left, ghop 0.5
+  -- a job with all-zero tables but for fvert 10, freq 2, fi's third 1, ghop 0.5 and nang angles
   job : (fvert10 nang : ℕ) → List (Field × ℕ) → Case
   -- rows of these hop lengths, of height 300, angle 10 and with their own numbers as layers; dmaxkm, amind: the search, ghop 0.5, freq 2
   search : (lengths : List ℕ) (dmaxkm amind : ℕ) → List (Field × ℕ) → Case
@@ -45,15 +44,25 @@ abbrev 1000·0 : ℕ
 abbrev 5000·0 : ℕ
 5000·0 = 0x459c_4000
 
+abbrev 300·0 : ℕ
+300·0 = 0x4396_0000
+
+abbrev 10·0 : ℕ
+10·0 = 0x4120_0000
+
+-- "row n": one ray, with the angle, the height and the layer of that row (a spot would have other ones)
+abbrev row : ℕ → List (Field × ℕ)
+row n = (rays, 1) ∷ (delmod 0, 10·0) ∷ (hpmod 0, 300·0) ∷ (itmod 0, n) ∷ []
+
 unfoldable pub cases : List Case
 cases =
     -- "`fnorml`(0) = 0.5"
     fnorml 0 0x3f00_0000
     -- "`prbmuf` with fset 0: 1 at fmhz = fgo": 10 MHz, each layer
-    ∷ prbmuf 0x4120_0000 0x4120_0000 0 1 0x3f80_0000
-    ∷ prbmuf 0x4120_0000 0x4120_0000 0 2 0x3f80_0000
-    ∷ prbmuf 0x4120_0000 0x4120_0000 0 3 0x3f80_0000
-    ∷ prbmuf 0x4120_0000 0x4120_0000 0 4 0x3f80_0000
+    ∷ prbmuf 10·0 10·0 0 1 0x3f80_0000
+    ∷ prbmuf 10·0 10·0 0 2 0x3f80_0000
+    ∷ prbmuf 10·0 10·0 0 3 0x3f80_0000
+    ∷ prbmuf 10·0 10·0 0 4 0x3f80_0000
     -- "nang 40: 0 rows, 0 looks, dskpkm −1, dmaxkm −1, heights −1, layers 5"
     ∷ job 0 40
     ((rows, 0) ∷ (looks, 0) ∷ (dskpkm, minus-1) ∷ (dmaxkm, minus-1)
@@ -66,9 +75,9 @@ cases =
     ∷ job 0x4000_0000 1 ((looks, 10) ∷ (rows, 0) ∷ [])
     ∷ job 0x4000_0000 40 ((looks, 48) ∷ (rows, 1) ∷ (delfx 0, 0x42b3_cccd) ∷ (imode 0, 1) ∷ [])
     -- "lengths 3185, 4000: row 1, 1 pair. 1000, 3185, 4000: row 2, 1 pair. 1000, 1000: row 1. 3185, 3185: none."
-    ∷ search (3185·0 ∷ 4000·0 ∷ []) 5000·0 0 ((rays, 1) ∷ (itmod 0, 1) ∷ (pairs, 1) ∷ [])
-    ∷ search (1000·0 ∷ 3185·0 ∷ 4000·0 ∷ []) 5000·0 0 ((rays, 1) ∷ (itmod 0, 2) ∷ (pairs, 1) ∷ [])
-    ∷ search (1000·0 ∷ 1000·0 ∷ []) 5000·0 0 ((rays, 1) ∷ (itmod 0, 1) ∷ [])
+    ∷ search (3185·0 ∷ 4000·0 ∷ []) 5000·0 0 (row 1 ++ (pairs, 1) ∷ [])
+    ∷ search (1000·0 ∷ 3185·0 ∷ 4000·0 ∷ []) 5000·0 0 (row 2 ++ (pairs, 1) ∷ [])
+    ∷ search (1000·0 ∷ 1000·0 ∷ []) 5000·0 0 (row 1)
     ∷ search (3185·0 ∷ 3185·0 ∷ []) 5000·0 0 ((rays, 0) ∷ (hpmod 0, minus-1) ∷ (itmod 0, 5) ∷ [])
     -- "3185, 4000 with amind 12: height −300. dmaxkm 3185: none."
     ∷ search (3185·0 ∷ 4000·0 ∷ []) 5000·0 0x4140_0000 ((rays, 0) ∷ (hpmod 0, 0xc396_0000) ∷ [])
@@ -79,35 +88,6 @@ cases =
 
 abbrev zeros : ℕ → List Float
 zeros n = replicate n (f32 0)
-
--- with hop lengths, heights, angles and layers in the first rows
-abbrev tableOf : (gd hp del : List Float) (mode : List ℕ) (far : Float) → Reflectrix
-tableOf gd hp del mode far =
-    record {
-      delfx = del;
-      hpflx = hp;
-      htflx = zeros 45;
-      gdflx = gd;
-      fvflx = zeros 45;
-      afflx = zeros 45;
-      imode = mode;
-      dskpkm = f32 0;
-      delskp = f32 0;
-      hpskp = f32 0;
-      htskp = f32 0;
-      dmaxkm = far;
-      fvskp = f32 0;
-      iskp = 0;
-      delpen = zeros 3;
-      iaftxr = 0;
-      «rows_this_call» = 0;
-    }
-
-abbrev allZero : Reflectrix
-allZero = tableOf (zeros 45) (zeros 45) (zeros 45) (replicate 45 0) (f32 0)
-
-abbrev noModes : HopModes
-noModes = record { delmod = zeros 6; hpmod = zeros 6; htmod = zeros 6; fvmod = zeros 6; itmod = replicate 6 0; afmod = zeros 6 }
 
 -- 1, 2, .. for as many as xs
 unfoldable pub numbered : ℕ → List ℕ → List ℕ
@@ -121,46 +101,73 @@ filledUp xs z = xs ++ replicate (45 - length xs) z
 abbrev each : List ℕ → ℕ → List Float
 each gs x = filledUp (replicate (length gs) (f32 x)) (f32 0)
 
+-- rows of these lengths in a reflectrix that is all-zero otherwise
 unfoldable pub rowsOf : List ℕ → ℕ → Reflectrix
-rowsOf gs far = tableOf (filledUp (map f32 gs) (f32 0)) (each gs 0x4396_0000) (each gs 0x4120_0000) (filledUp (numbered 0 gs) 0) (f32 far)
+rowsOf gs far =
+    record {
+      delfx = each gs 10·0;
+      hpflx = each gs 300·0;
+      htflx = zeros 45;
+      gdflx = filledUp (map f32 gs) (f32 0);
+      fvflx = zeros 45;
+      afflx = zeros 45;
+      imode = filledUp (numbered 0 gs) 0;
+      dskpkm = f32 0;
+      delskp = f32 0;
+      hpskp = f32 0;
+      htskp = f32 0;
+      dmaxkm = f32 far;
+      fvskp = f32 0;
+      iskp = 0;
+      delpen = zeros 3;
+      iaftxr = 0;
+      «rows_this_call» = 0;
+    }
 
--- freq 2, amind 0, point 0
-unfoldable pub walked : ℕ → ℕ → Walked
-walked fvert10 nang =
-    findfOf allZero 0 nang (f32 0x4000_0000) (f32 0) (replicate 5 (f32 0 ∷ f32 0 ∷ f32 0x3f80_0000 ∷ [])) (set (zeros 30) 9 (f32 fvert10)) (zeros 30) (zeros 30) (zeros 30)
-    (replicate 1200 (pos 0))
+-- freq 2, amind 0, ghop 0.5, point 0
+unfoldable pub solved : ℕ → ℕ → Solved
+solved fvert10 nang =
+    solvedOf
+    (partsBy 0 nang (f32 0x4000_0000) (f32 0) (f32 0x3f00_0000) (replicate 5 (f32 0 ∷ f32 0 ∷ f32 0x3f80_0000 ∷ [])) (set (zeros 30) 9 (f32 fvert10)) (zeros 30) (zeros 30) (zeros 30)
+    (replicate 1200 (pos 0)))
 
--- ghop 0.5, freq 2
-unfoldable pub searched : Reflectrix → ℕ → Searched
-searched rfx amind = fdistOf noModes rfx (f32 0x3f00_0000) (f32 amind) (f32 0x4000_0000)
+-- ghop 0.5, freq 2: the search alone
+abbrev searched : Reflectrix → ℕ → Searched
+searched rfx amind = fdistOf noSlots rfx (f32 0x3f00_0000) (f32 amind) (f32 0x4000_0000)
+
+unfoldable pub found : Reflectrix → ℕ → Solved
+found rfx amind =
+    let s = searched rfx amind in
+    record { refusal = s .refusal; looks = 0; pairs = s .pairs; rays = s .rays; rfx = rfx; slots = s .m }
 
 -- ---- what comes out, as words
 
 abbrev bits : Float → ℕ
 bits = toBits binary32
 
-unfoldable pub word : Walked → Searched → Field → ℕ
-word w s rows = w .rfx .«rows_this_call»
-word w s looks = w .looks
-word w s dskpkm = bits (w .rfx .dskpkm)
-word w s dmaxkm = bits (w .rfx .dmaxkm)
-word w s pairs = s .pairs
-word w s rays = s .rays
-word w s (delpen k) = bits (getD (w .rfx .delpen) k nan)
-word w s (delfx k) = bits (getD (w .rfx .delfx) k nan)
-word w s (imode k) = getD (w .rfx .imode) k 0
-word w s (hpmod k) = bits (getD (s .m .hpmod) k nan)
-word w s (itmod k) = getD (s .m .itmod) k 0
+unfoldable pub word : Solved → Field → ℕ
+word s rows = s .rfx .«rows_this_call»
+word s looks = s .looks
+word s dskpkm = bits (s .rfx .dskpkm)
+word s dmaxkm = bits (s .rfx .dmaxkm)
+word s pairs = s .pairs
+word s rays = s .rays
+word s (delpen k) = bits (getD (s .rfx .delpen) k nan)
+word s (delfx k) = bits (getD (s .rfx .delfx) k nan)
+word s (imode k) = getD (s .rfx .imode) k 0
+word s (delmod k) = bits (getD (s .slots .delmod) k nan)
+word s (hpmod k) = bits (getD (s .slots .hpmod) k nan)
+word s (itmod k) = getD (s .slots .itmod) k 0
 
 unfoldable pub asked : List (Field × ℕ) → List ℕ
 asked [] = []
 asked (f ∷ fs) = f .1 ∷ asked fs
 
-unfoldable pub answered : Walked → Searched → List (Field × ℕ) → List ℕ
-answered w s [] = []
-answered w s (f ∷ fs) = word w s (f .0) ∷ answered w s fs
+unfoldable pub answered : Solved → List (Field × ℕ) → List ℕ
+answered s [] = []
+answered s (f ∷ fs) = word s (f .0) ∷ answered s fs
 
--- what document 01 expects of a case: a list of words
+-- what document 01 expects of a case: a list of words, the number of the refusal first
 unfoldable pub expected : Case → List ℕ
 expected (fnorml ypx curve) = curve ∷ []
 expected (prbmuf fmhz fgo fset il chance) = 0 ∷ chance ∷ []
@@ -173,10 +180,5 @@ given (fnorml ypx curve) = toBits binary32 (fnormlOf (f32 ypx)) ∷ []
 given (prbmuf fmhz fgo fset il chance) =
     let p = prbmufOf (record { layers = replicate 4 (record { sigl = f32 0x3f80_0000; sigu = f32 0x3f80_0000 }) }) (f32 fmhz) (f32 fgo) (f32 fset) il in
     refusalOf p ∷ toBits binary32 (leftOf p nan) ∷ []
-given (job fvert10 nang fields) =
-    let w = walked fvert10 nang in
-    let s = searched (w .rfx) 0 in
-    w .refusal ∷ answered w s fields
-given (search lengths far amind fields) =
-    let s = searched (rowsOf lengths far) amind in
-    s .refusal ∷ answered (record { refusal = 0; looks = 0; rfx = allZero }) s fields
+given (job fvert10 nang fields) = let s = solved fvert10 nang in s .refusal ∷ answered s fields
+given (search lengths far amind fields) = let s = found (rowsOf lengths far) amind in s .refusal ∷ answered s fields
