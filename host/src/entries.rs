@@ -1,6 +1,6 @@
 //! The library's C entry points: the one place that knows their form.
 
-use crate::record::fields;
+use crate::record::fields_of_the_rust;
 
 /// What `prbmuf` reads of an hour: the deciles of the layers E, F1, F2 and Es.
 #[repr(C)]
@@ -81,7 +81,7 @@ record! {
     counts: nrel nmmod
 }
 
-fields! {
+fields_of_the_rust! {
     /// What a walk leaves. The Rust's has the columns of its losses besides.
     Reflectrix {
         delfx hpflx htflx gdflx fvflx afflx: [f32; 45],
@@ -93,7 +93,7 @@ fields! {
     }
 }
 
-fields! {
+fields_of_the_rust! {
     /// The six ray slots of one hop length.
     HopModes {
         delmod hpmod htmod fvmod: [f32; 6],

@@ -104,10 +104,15 @@ pub fn check_jobs(seed: u64, jobs: u64, kind: fn(&mut Prng) -> FdistJob) -> Tall
 pub fn after_a_walk(prng: &mut Prng) -> FdistJob {
     let walk = findf::realistic(prng);
     let rfx = findf::ours(Reflectrix::random(prng), &walk).rfx;
+    let ghop = ghop_within_reach(prng, &rfx);
+    FdistJob { rfx, ghop, amind: walk.amind, freq: walk.freq }
+}
+
+/// A length that is mostly within the reach of these rows; at times the very length of one.
+pub fn ghop_within_reach(prng: &mut Prng, rfx: &Reflectrix) -> f32 {
     let row = prng.below(rfx.rows_this_call.max(1));
     let lengths = [rfx.gdflx[row], prng.within(0.0, 1.05 * rfx.dmaxkm), prng.within(0.0, 4000.0)];
-    let ghop = (prng.among(&lengths) / RZ).max(0.0).min(*limits::GHOP.end());
-    FdistJob { rfx, ghop, amind: walk.amind, freq: walk.freq }
+    (prng.among(&lengths) / RZ).max(0.0).min(*limits::GHOP.end())
 }
 
 /// A search on 45 rows of any contents, drawn to be about the length, the minimum angle and the

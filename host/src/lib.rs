@@ -10,6 +10,7 @@ pub mod fdist;
 pub mod findf;
 pub mod floats;
 pub mod guarded;
+pub mod job;
 pub mod limits;
 #[cfg(oracle)]
 pub mod oracle;

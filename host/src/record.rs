@@ -20,6 +20,16 @@ impl Numbers<'_> {
             _ => false,
         }
     }
+
+    /// A word for each number, floats by their bits: "NaN is written 7FC00000 hexadecimal."
+    fn put(self, words: &mut Vec<u32>) {
+        let bits = |x: &f32| if x.is_nan() { 0x7fc0_0000 } else { x.to_bits() };
+        match self {
+            Numbers::Floats(floats) => words.extend(floats.iter().map(bits)),
+            Numbers::Words(these) => words.extend(these),
+            Numbers::Count(count) => words.push(u32::try_from(count).expect("a count of 32 bits")),
+        }
+    }
 }
 
 /// The type of a field.
@@ -27,6 +37,12 @@ pub trait Field {
     fn numbers(&self) -> Numbers<'_>;
     /// Any bits.
     fn random(prng: &mut Prng) -> Self;
+    /// By the next words, one for each number.
+    fn read(words: &mut impl Iterator<Item = u32>) -> Self;
+}
+
+fn next(words: &mut impl Iterator<Item = u32>) -> u32 {
+    words.next().expect("a word for each number")
 }
 
 impl Field for f32 {
@@ -36,6 +52,10 @@ impl Field for f32 {
 
     fn random(prng: &mut Prng) -> Self {
         prng.float()
+    }
+
+    fn read(words: &mut impl Iterator<Item = u32>) -> Self {
+        f32::from_bits(next(words))
     }
 }
 
@@ -47,6 +67,10 @@ impl<const N: usize> Field for [f32; N] {
     fn random(prng: &mut Prng) -> Self {
         std::array::from_fn(|_| prng.float())
     }
+
+    fn read(words: &mut impl Iterator<Item = u32>) -> Self {
+        std::array::from_fn(|_| f32::from_bits(next(words)))
+    }
 }
 
 impl Field for u32 {
@@ -56,6 +80,10 @@ impl Field for u32 {
 
     fn random(prng: &mut Prng) -> Self {
         prng.word()
+    }
+
+    fn read(words: &mut impl Iterator<Item = u32>) -> Self {
+        next(words)
     }
 }
 
@@ -67,6 +95,10 @@ impl<const N: usize> Field for [u32; N] {
     fn random(prng: &mut Prng) -> Self {
         prng.words()
     }
+
+    fn read(words: &mut impl Iterator<Item = u32>) -> Self {
+        std::array::from_fn(|_| next(words))
+    }
 }
 
 impl Field for usize {
@@ -76,6 +108,10 @@ impl Field for usize {
 
     fn random(prng: &mut Prng) -> Self {
         prng.long() as usize
+    }
+
+    fn read(words: &mut impl Iterator<Item = u32>) -> Self {
+        next(words) as usize
     }
 }
 
@@ -118,10 +154,16 @@ pub trait Record {
         let differing = pairs.find(|((_, a), (_, b))| !a.are(*b, same));
         differing.map(|((name, _), _)| name)
     }
+
+    /// All numbers in the fields' order, a word each.
+    fn words(&self) -> Vec<u32> {
+        let mut words = Vec::new();
+        self.fields().into_iter().for_each(|(_, numbers)| numbers.put(&mut words));
+        words
+    }
 }
 
-/// Defines a record with the field names of the Rust's record of the same name, and the way from
-/// one to the other.
+/// Defines a record whose fields are taken one by one.
 macro_rules! fields {
     (
         $(#[$meta:meta])*
@@ -140,6 +182,17 @@ macro_rules! fields {
                 use crate::record::Field;
                 Self { $($($field: <$type>::random(prng),)+)+ }
             }
+
+            /// By its numbers' words in the fields' order.
+            pub fn read(words: &mut impl Iterator<Item = u32>) -> Self {
+                use crate::record::Field;
+                Self { $($($field: <$type>::read(words),)+)+ }
+            }
+
+            /// 0 in every field.
+            pub fn zeros() -> Self {
+                Self::read(&mut std::iter::repeat(0))
+            }
         }
 
         impl crate::record::Record for $name {
@@ -147,6 +200,20 @@ macro_rules! fields {
                 use crate::record::Field;
                 vec![$($((stringify!($field), self.$field.numbers()),)+)+]
             }
+        }
+    };
+}
+
+/// Defines such a record with the field names of the Rust's record of the same name, and the way
+/// from one to the other.
+macro_rules! fields_of_the_rust {
+    (
+        $(#[$meta:meta])*
+        $name:ident { $($($field:ident)+: $type:ty),+ $(,)? }
+    ) => {
+        crate::record::fields! {
+            $(#[$meta])*
+            $name { $($($field)+: $type),+ }
         }
 
         #[cfg(oracle)]
@@ -168,4 +235,4 @@ macro_rules! fields {
     };
 }
 
-pub(crate) use fields;
+pub(crate) use {fields, fields_of_the_rust};

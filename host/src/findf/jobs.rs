@@ -35,7 +35,7 @@ impl Layer {
 }
 
 /// The whole kHz of a frequency, as findf takes them.
-fn khz(freq: f32) -> i32 {
+pub fn khz(freq: f32) -> i32 {
     (1000.0 * freq) as i32
 }
 
