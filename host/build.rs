@@ -39,9 +39,9 @@ fn link_libraries() {
     }
 }
 
-/// Writes four files: the items that call no angle function, and the others as they come, led to
-/// the library, and led and counted. Sets cfg(oracle). Where the source is not at hand the oracle
-/// is left out, but not in CI.
+/// Writes two files: the items that call no angle function, and the others as each variant of
+/// alterations.txt has them, in a module of its own. Sets cfg(oracle). Where the source is not at
+/// hand the oracle is left out, but not in CI.
 fn make_oracle() {
     println!("cargo:rerun-if-env-changed=CI");
     let source = directory("HFCAST_SRC", "../../shared/docs/src");
@@ -51,27 +51,33 @@ fn make_oracle() {
         println!("cargo:warning={missing}; the tests against it are skipped");
         return;
     }
-    let [mut once, mut as_it_comes, mut led, mut counted] = [const { String::new() }; 4];
-    let counts = slices::parse_counts(include_str!("oracle/counts.txt"));
-    for slice in slices::parse(include_str!("oracle/slices.txt")) {
+    let items = slices::parse(include_str!("oracle/slices.txt"));
+    let (variants, alterations) =
+        slices::parse_alterations(include_str!("oracle/alterations.txt"), &items)
+            .unwrap_or_else(|e| panic!("{e}"));
+    let mut modules = vec![String::new(); variants.len()];
+    let mut once = String::new();
+    for slice in &items {
         let file = source.join(slice.file);
         println!("cargo:rerun-if-changed={}", file.display());
         let text = fs::read_to_string(&file).unwrap_or_else(|e| panic!("{}: {e}", file.display()));
         let text = slice.cut(&text).unwrap_or_else(|e| panic!("{e}"));
-        let led_text = slice.lead(&text).unwrap_or_else(|e| panic!("{e}"));
         if slice.has_angle_calls() {
-            as_it_comes += &text;
-            counted += &slice.count(&led_text, &counts).unwrap_or_else(|e| panic!("{e}"));
-            led += &led_text;
+            for (variant, module) in variants.iter().zip(&mut modules) {
+                *module +=
+                    &variant.of(slice, &text, &alterations).unwrap_or_else(|e| panic!("{e}"));
+            }
         } else {
             once += &text;
         }
     }
+    let module = |(variant, text): (&slices::Variant, String)| {
+        format!("pub mod {} {{\nuse super::counts::*;\nuse super::*;\n{text}}}\n", variant.name)
+    };
+    let names: String = variants.iter().map(|v| format!("    {},\n", v.name)).collect();
+    let modules: String = variants.iter().zip(modules).map(module).collect();
     let out = PathBuf::from(env::var_os("OUT_DIR").unwrap());
-    for (name, text) in
-        [("once", once), ("as_it_comes", as_it_comes), ("led", led), ("counted", counted)]
-    {
-        fs::write(out.join(name).with_extension("rs"), text).unwrap();
-    }
+    fs::write(out.join("once.rs"), once).unwrap();
+    fs::write(out.join("variants.rs"), format!("{modules}variants! {{\n{names}}}\n")).unwrap();
     println!("cargo:rustc-cfg=oracle");
 }

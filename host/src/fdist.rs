@@ -11,7 +11,7 @@ use std::ops::RangeInclusive;
 #[cfg(oracle)]
 use crate::differences::Differences;
 #[cfg(oracle)]
-use crate::oracle::{self, as_it_comes, counted, led};
+use crate::oracle::{self, as_it_comes, counted, counts, led};
 
 /// What the checked jobs came to.
 #[derive(Default)]
@@ -55,9 +55,9 @@ pub fn rust(fdist: RustFdist, m: HopModes, job: &FdistJob) -> HopModes {
 /// The counted copy of the led one.
 #[cfg(oracle)]
 pub fn counted(m: HopModes, job: &FdistJob) -> Searched {
-    counted::take_counts();
+    counts::take();
     let m = rust(counted::fdist, m, job);
-    let [_, pairs, rays] = counted::take_counts();
+    let [_, pairs, rays] = counts::take();
     Searched { refusal: 0, pairs, rays, m }
 }
 

@@ -13,7 +13,7 @@ use crate::record::Record;
 #[cfg(oracle)]
 use crate::differences::Differences;
 #[cfg(oracle)]
-use crate::oracle::{self, as_it_comes, counted, led, AreaTables, IonoState};
+use crate::oracle::{self, as_it_comes, counted, counts, led, AreaTables, IonoState};
 
 /// What the checked jobs came to.
 #[derive(Default)]
@@ -112,9 +112,9 @@ pub fn rust(findf: RustFindf, rfx: Reflectrix, job: &FindfJob) -> Reflectrix {
 /// The counted copy of the led one.
 #[cfg(oracle)]
 pub fn counted(rfx: Reflectrix, job: &FindfJob) -> Walked {
-    counted::take_counts();
+    counts::take();
     let rfx = rust(counted::findf, rfx, job);
-    let [looks, ..] = counted::take_counts();
+    let [looks, ..] = counts::take();
     Walked { refusal: 0, looks, rfx }
 }
 

@@ -1,7 +1,7 @@
 //! The oracle: the sliced Rust over stubs that have only what the slices read. The build writes
-//! the slices; oracle/slices.txt lists them.
+//! the slices; oracle/slices.txt and oracle/alterations.txt list them.
 
-#![allow(clippy::all)]
+#![allow(clippy::all, unused_imports)]
 
 /// The Rust's real number, and the constants of its module `con` (document 01).
 pub type R = f32;
@@ -74,40 +74,48 @@ pub mod perf {
 
 include!(concat!(env!("OUT_DIR"), "/once.rs"));
 
-/// penang, findf and fdist with the angle functions of the Rust's own library.
-pub mod as_it_comes {
-    use super::*;
-    include!(concat!(env!("OUT_DIR"), "/as_it_comes.rs"));
-}
-
-/// penang, findf and fdist with their angle calls led to the library under test.
-pub mod led {
-    use super::*;
-    include!(concat!(env!("OUT_DIR"), "/led.rs"));
-}
-
-/// The led ones again, with the counts of oracle/counts.txt.
-pub mod counted {
-    use super::*;
+/// What the counted variants count, in this thread.
+pub mod counts {
     use std::cell::Cell;
     use std::thread::LocalKey;
-    include!(concat!(env!("OUT_DIR"), "/counted.rs"));
 
     thread_local! {
-        static LOOKS: Cell<u32> = const { Cell::new(0) };
-        static PAIRS: Cell<u32> = const { Cell::new(0) };
-        static RAYS: Cell<u32> = const { Cell::new(0) };
+        pub static LOOKS: Cell<u32> = const { Cell::new(0) };
+        pub static PAIRS: Cell<u32> = const { Cell::new(0) };
+        pub static RAYS: Cell<u32> = const { Cell::new(0) };
     }
 
-    fn count(counter: &'static LocalKey<Cell<u32>>) {
+    pub fn count(counter: &'static LocalKey<Cell<u32>>) {
         counter.set(counter.get() + 1);
     }
 
-    /// The looks, pairs and rays of this thread since it last asked.
-    pub fn take_counts() -> [u32; 3] {
+    /// The looks, pairs and rays since the thread last asked.
+    pub fn take() -> [u32; 3] {
         [LOOKS.take(), PAIRS.take(), RAYS.take()]
     }
 }
+
+/// findf and fdist of one variant.
+#[derive(Clone, Copy)]
+pub struct Variant {
+    pub name: &'static str,
+    pub findf: fn(&mut Reflectrix, &IonoState, &AreaTables, usize, R, R, usize),
+    pub fdist: fn(&mut HopModes, &Reflectrix, R, R, R),
+}
+
+/// Lists the variants.
+macro_rules! variants {
+    ($($name:ident),+ $(,)?) => {
+        pub const VARIANTS: &[Variant] = &[
+            $(Variant { name: stringify!($name), findf: $name::findf, fdist: $name::fdist }),+
+        ];
+    };
+}
+
+// penang, findf and fdist as each variant of oracle/alterations.txt has them: as they come, with
+// their angle calls led to the library under test, led and counted, and with what a porter gets
+// wrong.
+include!(concat!(env!("OUT_DIR"), "/variants.rs"));
 
 trait Led {
     fn ray_sin(self) -> R;
