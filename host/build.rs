@@ -71,13 +71,23 @@ fn make_oracle() {
             once += &text;
         }
     }
-    let module = |(variant, text): (&slices::Variant, String)| {
-        format!("pub mod {} {{\nuse super::counts::*;\nuse super::*;\n{text}}}\n", variant.name)
-    };
-    let names: String = variants.iter().map(|v| format!("    {},\n", v.name)).collect();
-    let modules: String = variants.iter().zip(modules).map(module).collect();
+    let mut text: String = variants.iter().zip(modules).map(module).collect();
+    let names: Vec<_> = variants.iter().map(|v| format!("{}::VARIANT", v.name)).collect();
+    text += &format!("pub const VARIANTS: &[Variant] = &[{}];\n", names.join(", "));
     let out = PathBuf::from(env::var_os("OUT_DIR").unwrap());
     fs::write(out.join("once.rs"), once).unwrap();
-    fs::write(out.join("variants.rs"), format!("{modules}variants! {{\n{names}}}\n")).unwrap();
+    fs::write(out.join("variants.rs"), text).unwrap();
     println!("cargo:rustc-cfg=oracle");
+}
+
+/// The module of a variant, over what src/oracle.rs has.
+fn module((variant, text): (&slices::Variant, String)) -> String {
+    let name = variant.name;
+    format!(
+        "pub mod {name} {{\n\
+         use super::counts::*;\n\
+         use super::*;\n\
+         pub const VARIANT: Variant = Variant {{ name: \"{name}\", findf, fdist }};\n\
+         {text}}}\n"
+    )
 }

@@ -287,3 +287,15 @@ unsafe extern "C" {
     #[link_name = "ray_atan"]
     pub safe fn atan(x: f32) -> f32;
 }
+
+// A slice is its address, then its length.
+unsafe extern "C" {
+    fn ray_job(job: *const u8, job_len: usize, answer: *mut u8, answer_len: usize) -> u32;
+}
+
+/// The job call: 0 with the answer in `answer`, or the number of the first limit broken, and
+/// `answer` as it was.
+pub fn job(job: &[u8], answer: &mut [u8]) -> u32 {
+    // Sound: of the memory lent the call reads the job and writes the answer, and keeps neither.
+    unsafe { ray_job(job.as_ptr(), job.len(), answer.as_mut_ptr(), answer.len()) }
+}

@@ -1,40 +1,17 @@
 //! fdist by value: jobs for it, and the check of one.
 
+use crate::con::RZ;
 use crate::entries::{self, FdistJob, HopModes, Reflectrix, Searched};
-use crate::findf::{self, inside, near, RZ};
+use crate::findf::{self, inside, near};
 use crate::floats;
 use crate::limits;
 use crate::prng::Prng;
 use crate::record::Record;
+use crate::tally::Tally;
 use std::ops::RangeInclusive;
 
 #[cfg(oracle)]
-use crate::differences::Differences;
-#[cfg(oracle)]
 use crate::oracle::{self, as_it_comes, counted, counts, led};
-
-/// What the checked jobs came to.
-#[derive(Default)]
-pub struct Tally {
-    /// How many jobs were refused by each number; accepted ones at 0.
-    pub refusals: [u64; 14],
-    /// How many accepted jobs tried all 44 pairs.
-    pub all_pairs: u64,
-    /// How many accepted jobs found 0 to 6 rays.
-    pub rays: [u64; 7],
-    #[cfg(oracle)]
-    pub differences: Differences,
-}
-
-impl Tally {
-    pub fn print(&self, name: &str) {
-        let Tally { refusals, all_pairs, rays, .. } = self;
-        println!("fdist, {name}: {} accepted, refused {:?}", refusals[0], &refusals[5..8]);
-        println!("  with 44 pairs {all_pairs}, with 0 to 6 rays {rays:?}");
-        #[cfg(oracle)]
-        println!("  {}", self.differences);
-    }
-}
 
 /// The library's fdist.
 pub fn ours(m: HopModes, job: &FdistJob) -> Searched {
@@ -52,13 +29,22 @@ pub fn rust(fdist: RustFdist, m: HopModes, job: &FdistJob) -> HopModes {
     rust.into()
 }
 
-/// The counted copy of the led one.
+/// One that counts pairs and rays.
 #[cfg(oracle)]
-pub fn counted(m: HopModes, job: &FdistJob) -> Searched {
+pub fn counting(fdist: RustFdist, m: HopModes, job: &FdistJob) -> Searched {
     counts::take();
-    let m = rust(counted::fdist, m, job);
+    let m = rust(fdist, m, job);
     let [_, pairs, rays] = counts::take();
     Searched { refusal: 0, pairs, rays, m }
+}
+
+/// The led one, with the pairs and rays of its counted copy.
+#[cfg(oracle)]
+pub fn led(m: HopModes, job: &FdistJob) -> Searched {
+    let led = rust(led::fdist, m, job);
+    let counted = counting(counted::fdist, m, job);
+    assert_eq!(counted.m.difference(&led, floats::same), None);
+    Searched { m: led, ..counted }
 }
 
 /// Checks a job on used slots: the number by the limits, a refusal's slots as they were, accepted
@@ -76,16 +62,13 @@ pub fn check(old: HopModes, job: &FdistJob, tally: &mut Tally) {
         return;
     }
     assert!(s.pairs <= 44, "{}", at());
-    tally.all_pairs += u64::from(s.pairs == 44);
-    tally.rays[s.rays as usize] += 1;
+    tally.add_search(s.pairs, s.rays);
     #[cfg(oracle)]
     {
-        let led = rust(led::fdist, old, job);
-        assert_eq!(s.m.difference(&led, floats::same), None, "{}", at());
-        let counted = counted(old, job);
-        assert_eq!(counted.m.difference(&led, floats::same), None, "{}", at());
-        assert_eq!((s.pairs, s.rays), (counted.pairs, counted.rays), "{}", at());
-        tally.differences.add(&led, &rust(as_it_comes::fdist, old, job));
+        let expected = led(old, job);
+        assert_eq!(s.m.difference(&expected.m, floats::same), None, "{}", at());
+        assert_eq!((s.pairs, s.rays), (expected.pairs, expected.rays), "{}", at());
+        tally.differences.add(&expected.m, &rust(as_it_comes::fdist, old, job));
     }
 }
 
@@ -104,15 +87,10 @@ pub fn check_jobs(seed: u64, jobs: u64, kind: fn(&mut Prng) -> FdistJob) -> Tall
 pub fn after_a_walk(prng: &mut Prng) -> FdistJob {
     let walk = findf::realistic(prng);
     let rfx = findf::ours(Reflectrix::random(prng), &walk).rfx;
-    let ghop = ghop_within_reach(prng, &rfx);
-    FdistJob { rfx, ghop, amind: walk.amind, freq: walk.freq }
-}
-
-/// A length that is mostly within the reach of these rows; at times the very length of one.
-pub fn ghop_within_reach(prng: &mut Prng, rfx: &Reflectrix) -> f32 {
     let row = prng.below(rfx.rows_this_call.max(1));
     let lengths = [rfx.gdflx[row], prng.within(0.0, 1.05 * rfx.dmaxkm), prng.within(0.0, 4000.0)];
-    (prng.among(&lengths) / RZ).max(0.0).min(*limits::GHOP.end())
+    let ghop = (prng.among(&lengths) / RZ).max(0.0).min(*limits::GHOP.end());
+    FdistJob { rfx, ghop, amind: walk.amind, freq: walk.freq }
 }
 
 /// A search on 45 rows of any contents, drawn to be about the length, the minimum angle and the

@@ -3,74 +3,17 @@
 mod jobs;
 pub use jobs::*;
 
+use crate::ensure::{ensure, Checked};
 use crate::entries::{self, Figures, FindfJob, Outcome, Reflectrix, Walked};
 use crate::floats;
 use crate::guarded::Guarded;
 use crate::limits;
 use crate::prng::Prng;
 use crate::record::Record;
+use crate::tally::Tally;
 
-#[cfg(oracle)]
-use crate::differences::Differences;
 #[cfg(oracle)]
 use crate::oracle::{self, as_it_comes, counted, counts, led, AreaTables, IonoState};
-
-/// What the checked jobs came to.
-#[derive(Default)]
-pub struct Tally {
-    /// How many jobs were refused by each number; accepted ones at 0.
-    pub refusals: [u64; 14],
-    /// How many accepted jobs wrote rows of each layer, and how many had a dead F2.
-    pub layers: [u64; 3],
-    pub dead: u64,
-    /// How many accepted jobs have a row whose length is NaN.
-    pub nan: u64,
-    pub most_rows: usize,
-    /// The most rows and looks beyond nang.
-    pub rows_beyond: i64,
-    pub looks_beyond: i64,
-    #[cfg(oracle)]
-    pub differences: Differences,
-}
-
-impl Tally {
-    fn add(&mut self, w: &Walked, nang: usize) {
-        let rows = w.rfx.rows_this_call;
-        for (layer, count) in (1..).zip(&mut self.layers) {
-            *count += u64::from(w.rfx.imode[..rows].contains(&layer));
-        }
-        self.dead += u64::from(w.rfx.delpen[2] == 0.0);
-        self.nan += u64::from(w.rfx.gdflx[..rows].iter().any(|length| length.is_nan()));
-        self.most_rows = self.most_rows.max(rows);
-        self.rows_beyond = self.rows_beyond.max(rows as i64 - nang as i64);
-        self.looks_beyond = self.looks_beyond.max(i64::from(w.looks) - nang as i64);
-    }
-
-    pub fn merge(&mut self, other: Self) {
-        let add = |ours: &mut [u64], theirs: &[u64]| {
-            ours.iter_mut().zip(theirs).for_each(|(ours, theirs)| *ours += theirs);
-        };
-        add(&mut self.refusals, &other.refusals);
-        add(&mut self.layers, &other.layers);
-        self.dead += other.dead;
-        self.nan += other.nan;
-        self.most_rows = self.most_rows.max(other.most_rows);
-        self.rows_beyond = self.rows_beyond.max(other.rows_beyond);
-        self.looks_beyond = self.looks_beyond.max(other.looks_beyond);
-        #[cfg(oracle)]
-        self.differences.merge(other.differences);
-    }
-
-    pub fn print(&self, name: &str) {
-        let Tally { refusals, layers, dead, nan, most_rows, rows_beyond, looks_beyond, .. } = self;
-        println!("findf, {name}: {} accepted, refused {:?}", refusals[0], &refusals[3..11]);
-        println!("  with rows of E {}, F1 {}, F2 {}", layers[0], layers[1], layers[2]);
-        println!("  {dead} with a dead F2, {nan} with NaN");
-        println!("  most rows {most_rows}; beyond nang {rows_beyond} rows, {looks_beyond} looks");
-        #[cfg(oracle)]
-        println!("  {}", self.differences);
-    }
-}
 
 /// The library's findf by value.
 pub fn ours(rfx: Reflectrix, job: &FindfJob) -> Walked {
@@ -109,51 +52,72 @@ pub fn rust(findf: RustFindf, rfx: Reflectrix, job: &FindfJob) -> Reflectrix {
     rust.into()
 }
 
-/// The counted copy of the led one.
+/// One that counts looks.
 #[cfg(oracle)]
-pub fn counted(rfx: Reflectrix, job: &FindfJob) -> Walked {
+pub fn counting(findf: RustFindf, rfx: Reflectrix, job: &FindfJob) -> Walked {
     counts::take();
-    let rfx = rust(counted::findf, rfx, job);
+    let rfx = rust(findf, rfx, job);
     let [looks, ..] = counts::take();
     Walked { refusal: 0, looks, rfx }
 }
 
-/// Checks a job on a used reflectrix, by value and in place: the number by the limits, a
-/// refusal's reflectrix as it was, an accepted one as the led Rust has it.
-pub fn check(old: Reflectrix, job: &FindfJob, tally: &mut Tally) {
+/// The led one, with the looks of its counted copy.
+#[cfg(oracle)]
+pub fn led(rfx: Reflectrix, job: &FindfJob) -> Walked {
+    let led = rust(led::findf, rfx, job);
+    let counted = counting(counted::findf, rfx, job);
+    assert_eq!(counted.rfx.difference(&led, floats::same), None);
+    Walked { rfx: led, ..counted }
+}
+
+/// A findf by value.
+pub type Walk = fn(Reflectrix, &FindfJob) -> Walked;
+
+/// The library's.
+pub const OURS: [Walk; 2] = [ours, ours_in_place];
+
+/// Checks a job on a used reflectrix, by each of `walks`: the number by the limits, a refusal's
+/// reflectrix as it was, an accepted one as the led Rust has it.
+pub fn check(walks: &[Walk], old: Reflectrix, job: &FindfJob, tally: &mut Tally) -> Checked {
     let refusal = limits::findf(job);
-    let answers = [ours(old, job), ours_in_place(old, job)];
     let FindfJob { k, nang, freq, amind, .. } = *job;
-    let at = || format!("k {k}, nang {nang}, freq {freq:e}, amind {amind:e}");
-    assert_eq!(answers.map(|w| w.refusal), [refusal; 2], "{}", at());
+    let at = |what: &str| format!("{what}: k {k}, nang {nang}, freq {freq:e}, amind {amind:e}");
     tally.refusals[refusal as usize] += 1;
-    if refusal > 0 {
-        for w in answers {
-            assert_eq!(w.looks, 0, "{}", at());
-            assert_eq!(w.rfx.difference(&old, floats::identical), None, "{}", at());
-        }
-        return;
-    }
-    tally.add(&answers[0], nang);
     #[cfg(oracle)]
-    {
-        let led = rust(led::findf, old, job);
-        let counted = counted(old, job);
-        assert_eq!(counted.rfx.difference(&led, floats::same), None, "{}", at());
-        for w in answers {
-            assert_eq!(w.rfx.difference(&led, floats::same), None, "{}", at());
-            assert_eq!(w.looks, counted.looks, "{}", at());
+    let expected = (refusal == 0).then(|| led(old, job));
+    let answers: Vec<Walked> = walks.iter().map(|walk| walk(old, job)).collect();
+    for w in &answers {
+        ensure(w.refusal == refusal, || at(&format!("{}, not {refusal}", w.refusal)))?;
+        if refusal > 0 {
+            let difference = w.rfx.difference(&old, floats::identical);
+            ensure(difference.is_none(), || at(&format!("changed {difference:?}")))?;
+            ensure(w.looks == 0, || at("looks of a refused job"))?;
         }
-        tally.differences.add(&led, &rust(as_it_comes::findf, old, job));
+        #[cfg(oracle)]
+        if let Some(expected) = &expected {
+            let difference = w.rfx.difference(&expected.rfx, floats::same);
+            ensure(difference.is_none(), || at(&format!("another {difference:?}")))?;
+            ensure(w.looks == expected.looks, || at("other looks"))?;
+        }
     }
+    if refusal == 0 {
+        let Walked { looks, rfx, .. } = &answers[0];
+        let rows = rfx.rows_this_call;
+        tally.add_walk(nang, *looks, &rfx.imode[..rows], &rfx.gdflx[..rows], rfx.delpen[2]);
+    }
+    #[cfg(oracle)]
+    if let Some(expected) = &expected {
+        tally.differences.add(&expected.rfx, &rust(as_it_comes::findf, old, job));
+    }
+    Ok(())
 }
 
 /// Checks jobs of one kind, each on a reflectrix of any contents.
-pub fn check_jobs(seed: u64, jobs: u64, kind: Kind) -> Tally {
+pub fn check_jobs(walks: &[Walk], seed: u64, jobs: u64, kind: Kind) -> Checked<Tally> {
     let (mut prng, mut tally) = (Prng::new(seed), Tally::default());
     for _ in 0..jobs {
         let old = Reflectrix::random(&mut prng);
-        check(old, &kind(&mut prng), &mut tally);
+        check(walks, old, &kind(&mut prng), &mut tally)?;
     }
-    tally
+    Ok(tally)
 }

@@ -4,13 +4,19 @@
 mod jobs;
 pub use jobs::*;
 
+use crate::demand;
+use crate::ensure::{ensure, Checked};
 use crate::entries::{FindfJob, HopModes, Reflectrix};
+use crate::guarded::GuardedBytes;
+use crate::limits;
+use crate::prng::Prng;
 use crate::record::{fields, Field, Record};
+use crate::tally::Tally;
 
 #[cfg(oracle)]
 use crate::entries::{FdistJob, Searched, Walked};
 #[cfg(oracle)]
-use crate::oracle::led;
+use crate::oracle::{counted_as_it_comes, Variant};
 #[cfg(oracle)]
 use crate::{fdist, findf, floats};
 
@@ -102,42 +108,99 @@ impl Answer {
     }
 }
 
-/// What one of the Rust's makes of a job: "the walk from the all-zero reflectrix, then the search
-/// on what it left".
+/// The answer to a job, and its rays: "the walk from the all-zero reflectrix, then the search on
+/// what it left".
 #[cfg(oracle)]
 pub fn solved(
     job: &Job,
     walk: impl Fn(Reflectrix, &FindfJob) -> Walked,
     search: impl Fn(HopModes, &FdistJob) -> Searched,
-) -> Answer {
+) -> (Answer, u32) {
     let Job { walk: FindfJob { amind, freq, .. }, ghop } = *job;
     let Walked { looks, rfx, .. } = walk(Reflectrix::zeros(), &job.walk);
-    let Searched { pairs, m, .. } = search(HopModes::zeros(), &FdistJob { rfx, ghop, amind, freq });
-    Answer::new(looks, pairs, rfx, m)
-}
-
-/// The led Rust's answer, with the counts of its counted copy.
-#[cfg(oracle)]
-pub fn led_answer(job: &Job) -> Answer {
-    solved(
-        job,
-        |old, walk| {
-            let rfx = findf::rust(led::findf, old, walk);
-            let counted = findf::counted(old, walk);
-            assert_eq!(counted.rfx.difference(&rfx, floats::same), None);
-            Walked { rfx, ..counted }
-        },
-        |old, search| {
-            let m = fdist::rust(led::fdist, old, search);
-            let counted = fdist::counted(old, search);
-            assert_eq!(counted.m.difference(&m, floats::same), None);
-            Searched { m, ..counted }
-        },
-    )
+    let search = search(HopModes::zeros(), &FdistJob { rfx, ghop, amind, freq });
+    (Answer::new(looks, search.pairs, rfx, search.m), search.rays)
 }
 
 /// What the job call must leave in the answer of a job within the limits.
 #[cfg(oracle)]
 pub fn oracle_answer(job: &[u8]) -> [u8; Answer::BYTES] {
-    led_answer(&Job::read(job)).bytes()
+    solved(&Job::read(job), findf::led, fdist::led).0.bytes()
+}
+
+/// The answer of a variant that counts.
+#[cfg(oracle)]
+pub fn solved_by(variant: &Variant, job: &Job) -> Answer {
+    let walk = |old, walk: &_| findf::counting(variant.findf, old, walk);
+    let search = |old, search: &_| fdist::counting(variant.fdist, old, search);
+    solved(job, walk, search).0
+}
+
+/// The job call that a variant makes.
+#[cfg(oracle)]
+pub fn call_of(variant: &Variant, job: &[u8], answer: &mut [u8]) -> u32 {
+    let refusal = limits::job(job, answer.len());
+    if refusal == 0 {
+        answer.copy_from_slice(&solved_by(variant, &Job::read(job)).bytes());
+    }
+    refusal
+}
+
+/// A job call.
+pub type Call = dyn Fn(&[u8], &mut [u8]) -> u32;
+
+/// Holds a call on a job, and on an answer of any old contents, against the limits, the oracle and
+/// demand 3. Both are lent at a place of every 16 bytes between bytes that no call may touch.
+pub fn check(
+    call: &Call,
+    job: &[u8],
+    old: &[u8],
+    places: [usize; 2],
+    tally: &mut Tally,
+) -> Checked {
+    let lent_job = GuardedBytes::new(job, places[0]);
+    let mut lent_answer = GuardedBytes::new(old, places[1]);
+    let number = call(lent_job.lent(), lent_answer.lent_mut());
+    ensure(lent_job.is_intact() && lent_answer.is_intact(), || "wrote elsewhere".to_string())?;
+    ensure(lent_job.lent() == job, || "wrote into the job".to_string())?;
+    let refusal = limits::job(job, old.len());
+    ensure(number == refusal, || format!("{number}, not {refusal}"))?;
+    tally.refusals[refusal as usize] += 1;
+    if refusal > 0 {
+        return ensure(lent_answer.lent() == old, || format!("{refusal}, but wrote the answer"));
+    }
+    let (job, answer) = (Job::read(job), Answer::from_bytes(lent_answer.lent()));
+    let Job { walk: FindfJob { k, nang, freq, amind, .. }, ghop } = job;
+    let at = |what: String| {
+        format!("{what}: k {k}, nang {nang}, freq {freq:e}, amind {amind:e}, ghop {ghop:e}")
+    };
+    #[cfg(oracle)]
+    let (expected, expected_rays) = solved(&job, findf::led, fdist::led);
+    #[cfg(oracle)]
+    ensure(lent_answer.lent() == expected.bytes(), || {
+        let field = answer.difference(&expected, floats::same);
+        at(field.map_or("a NaN of other bits".to_string(), |name| format!("another {name}")))
+    })?;
+    let rays = demand::check(&job, &answer, tally).map_err(at)?;
+    #[cfg(oracle)]
+    {
+        ensure(rays == expected_rays, || at(format!("{rays} rays, not {expected_rays}")))?;
+        tally.differences.add(&expected, &solved_by(&counted_as_it_comes::VARIANT, &job));
+    }
+    let rows = answer.rows as usize;
+    let (layers, lengths) = (&answer.imode[..rows], &answer.gdflx[..rows]);
+    tally.add_walk(nang, answer.looks, layers, lengths, answer.delpen[2]);
+    tally.add_search(answer.pairs, rays);
+    Ok(())
+}
+
+/// Checks jobs of one kind, each on an answer of any contents, at all places in turn.
+pub fn check_jobs(call: &Call, seed: u64, jobs: u64, kind: Kind) -> Checked<Tally> {
+    let (mut prng, mut tally) = (Prng::new(seed), Tally::default());
+    for i in 0..jobs as usize {
+        let old = bytes_of(&prng.words::<{ Answer::BYTES / 4 }>());
+        let job = kind(&mut prng).bytes();
+        check(call, &job, &old, [i % 16, i / 16 % 16], &mut tally)?;
+    }
+    Ok(tally)
 }

@@ -2,8 +2,11 @@
 
 pub mod angles;
 pub mod bounds;
+pub mod con;
+pub mod demand;
 #[cfg(oracle)]
 pub mod differences;
+pub mod ensure;
 pub mod entries;
 pub mod exact;
 pub mod fdist;
@@ -17,6 +20,7 @@ pub mod oracle;
 pub mod page;
 pub mod prng;
 pub mod record;
+pub mod tally;
 
 // The sliced Rust reads `crate::perf`.
 #[cfg(oracle)]

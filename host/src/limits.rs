@@ -1,6 +1,7 @@
 //! Document 01's limits as the tests compute them, apart from the library.
 
 use crate::entries::{AllModes, FdistJob, FindfJob, Zon};
+use crate::job::{Answer, Job};
 use std::ops::RangeInclusive;
 
 pub const FREQ: RangeInclusive<f32> = 2.0..=30.0;
@@ -19,14 +20,31 @@ fn first_broken(tests: &[(u32, &dyn Fn() -> bool)]) -> u32 {
     tests.iter().find(|(_, holds)| !holds()).map_or(0, |(number, _)| *number)
 }
 
-/// The limit that `findf` breaks first, else 0.
-pub fn findf(job: &FindfJob) -> u32 {
+/// The limit that the job call breaks first on these bytes and an answer of this length, else 0.
+pub fn job(bytes: &[u8], answer: usize) -> u32 {
+    if bytes.len() != Job::BYTES {
+        1
+    } else if answer != Answer::BYTES {
+        2
+    } else {
+        numbers(&Job::read(bytes))
+    }
+}
+
+/// The limit that `findf` breaks first, else 0: it has no hop length, which is the job's alone.
+pub fn findf(walk: &FindfJob) -> u32 {
+    numbers(&Job { walk: *walk, ghop: *GHOP.start() })
+}
+
+/// Limits 3 to 10.
+fn numbers(Job { walk: job, ghop }: &Job) -> u32 {
     let all = |column: &[f32], range: RangeInclusive<f32>| column.iter().all(|x| range.contains(x));
     first_broken(&[
         (3, &|| job.k <= 4),
         (4, &|| job.nang <= 40),
         (5, &|| FREQ.contains(&job.freq)),
         (6, &|| AMIND.contains(&job.amind)),
+        (7, &|| GHOP.contains(ghop)),
         (8, &|| FI_SECOND.contains(&job.fi[job.k][1])),
         (8, &|| FI_THIRD.contains(&job.fi[job.k][2])),
         (9, &|| all(&job.fvert, FVERT) && all(&job.hprim, HPRIM)),

@@ -3,12 +3,10 @@
 
 #![allow(clippy::all, unused_imports)]
 
-/// The Rust's real number, and the constants of its module `con` (document 01).
+use crate::con::{D2R, PIO2, R2D, RZ};
+
+/// The Rust's real number.
 pub type R = f32;
-pub const RZ: R = 6370.0;
-pub const D2R: R = 0.01745329251;
-pub const R2D: R = 57.295779513;
-pub const PIO2: R = 1.570796326;
 
 #[derive(Clone, Copy)]
 pub struct LayerMuf {
@@ -103,18 +101,9 @@ pub struct Variant {
     pub fdist: fn(&mut HopModes, &Reflectrix, R, R, R),
 }
 
-/// Lists the variants.
-macro_rules! variants {
-    ($($name:ident),+ $(,)?) => {
-        pub const VARIANTS: &[Variant] = &[
-            $(Variant { name: stringify!($name), findf: $name::findf, fdist: $name::fdist }),+
-        ];
-    };
-}
-
-// penang, findf and fdist as each variant of oracle/alterations.txt has them: as they come, with
-// their angle calls led to the library under test, led and counted, and with what a porter gets
-// wrong.
+// penang, findf and fdist as each variant of oracle/alterations.txt has them, in a module of its
+// name: as they come, with their angle calls led to the library under test, led and counted, and
+// with what a porter gets wrong.
 include!(concat!(env!("OUT_DIR"), "/variants.rs"));
 
 trait Led {

@@ -2,6 +2,7 @@
 
 use host::entries::{self, AllModes, FindfJob, HopModes, MufHour, Reflectrix, Zon};
 use host::prng::Prng;
+use host::tally::Tally;
 use host::{fdist, findf, floats, limits};
 
 const LAYERS_OUTSIDE: [usize; 6] = [0, 5, 6, 1 << 32, usize::MAX - 1, usize::MAX];
@@ -89,7 +90,7 @@ fn accumulate_refuses_by_the_limits_alone() {
 /// The number that findf refuses a job with. It must be the one by the limits, and a refusal must
 /// leave all as it was.
 fn refusal(prng: &mut Prng, job: &FindfJob) -> u32 {
-    findf::check(Reflectrix::random(prng), job, &mut findf::Tally::default());
+    findf::check(&findf::OURS, Reflectrix::random(prng), job, &mut Tally::default()).unwrap();
     limits::findf(job)
 }
 
@@ -181,7 +182,7 @@ fn findf_refuses_by_the_first_limit_broken() {
 #[test]
 fn fdist_refuses_by_the_first_limit_broken() {
     let mut prng = Prng::new(27);
-    let mut tally = fdist::Tally::default();
+    let mut tally = Tally::default();
     let about = |range: std::ops::RangeInclusive<f32>| floats::about(*range.start(), *range.end());
     for freq in about(limits::FREQ) {
         for amind in about(limits::AMIND) {

@@ -1,8 +1,10 @@
-//! Checks for when minutes do not matter: sweeps over all 2^32 f32, the exact bounds, and 10^7
-//! walks.
+//! Checks for when minutes do not matter: sweeps over all 2^32 f32, the exact bounds, 10^7 walks
+//! and 10^7 jobs.
 
 use host::angles::{named, Function, FUNCTIONS};
 use host::{bounds, entries, floats};
+#[cfg(oracle)]
+use host::{ensure::Checked, tally::Tally};
 use std::ops::Range;
 use std::process::ExitCode;
 use std::thread;
@@ -102,22 +104,38 @@ fn exact() -> ExitCode {
     ExitCode::SUCCESS
 }
 
-/// Each kind of findf's jobs, in batches with a seed each: more than 10^7 jobs in all.
+/// Checks 34 batches, with a seed each, and prints what their jobs came to.
+#[cfg(oracle)]
+fn batches(name: &str, check: impl Fn(u64) -> Checked<Tally> + Sync) {
+    let mut tally = Tally::default();
+    let check = |batch| check(1000 + batch).unwrap();
+    let found = shared(34, |share| share.map(check).collect::<Vec<_>>());
+    found.into_iter().flatten().for_each(|batch| tally.merge(batch));
+    tally.print(name);
+}
+
+/// Each kind of findf's jobs: more than 10^7 jobs in all.
 #[cfg(oracle)]
 fn walks() -> ExitCode {
     for (name, kind) in host::findf::KINDS {
-        let mut tally = host::findf::Tally::default();
-        let check = |batch| host::findf::check_jobs(1000 + batch, 100_000, kind);
-        let found = shared(34, |share| share.map(check).collect::<Vec<_>>());
-        found.into_iter().flatten().for_each(|batch| tally.merge(batch));
-        tally.print(name);
+        let walks = &host::findf::OURS;
+        batches(name, |seed| host::findf::check_jobs(walks, seed, 100_000, kind));
+    }
+    ExitCode::SUCCESS
+}
+
+/// Each kind of jobs for the job call: more than 10^7 in all.
+#[cfg(oracle)]
+fn jobs() -> ExitCode {
+    for (name, kind) in host::job::KINDS {
+        batches(name, |seed| host::job::check_jobs(&entries::job, seed, 100_000, kind));
     }
     ExitCode::SUCCESS
 }
 
 const USAGE: &str = "usage: sweep sqrt | normal-curve | exact | page FUNCTION
              sin | cos | asin | acos | atan
-             fnorml | findf (need the Rust source)";
+             fnorml | findf | job (need the Rust source)";
 
 fn main() -> ExitCode {
     let start = Instant::now();
@@ -129,6 +147,8 @@ fn main() -> ExitCode {
         (["fnorml"], _) => compare(|x| entries::fnorml(x), host::oracle::fnorml),
         #[cfg(oracle)]
         (["findf"], _) => walks(),
+        #[cfg(oracle)]
+        (["job"], _) => jobs(),
         (["normal-curve"], _) => normal_curve(),
         ([_], Some(f)) => angle(f),
         (["page", _], Some(f)) => compare(f.ours, f.page),

@@ -1,5 +1,6 @@
 //! Jobs for findf: realistic, adversarial within the limits, and about the limits.
 
+use crate::con::RZ;
 use crate::entries::FindfJob;
 use crate::prng::Prng;
 use crate::{floats, limits};
@@ -10,9 +11,6 @@ pub fn take_off_angles() -> impl Iterator<Item = f32> {
     let steps = (1..=6).chain((8..=56).step_by(2)).chain((60..=85).step_by(5));
     [0.0, 0.5].into_iter().chain(steps.map(|degrees| degrees as f32)).chain([89.99])
 }
-
-/// The radius of the earth in the Rust, in km.
-pub const RZ: f32 = 6370.0;
 
 /// A parabolic layer: critical frequency, height of the peak and half thickness.
 #[derive(Clone, Copy)]

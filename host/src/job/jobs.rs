@@ -1,9 +1,9 @@
 //! Jobs for the job call: realistic, adversarial within the limits, and about the limits.
 
 use super::Job;
+use crate::con::RZ;
 use crate::entries::{FindfJob, Reflectrix};
-use crate::fdist::ghop_within_reach;
-use crate::findf::{self, inside, khz, near, RZ};
+use crate::findf::{self, inside, khz, near};
 use crate::prng::Prng;
 use crate::{floats, limits};
 
@@ -24,13 +24,18 @@ pub fn realistic(prng: &mut Prng) -> Job {
     Job { walk, ghop }
 }
 
+/// A length of which half are up to the farthest hop or a little beyond.
+fn ghop_within_reach(prng: &mut Prng, rfx: &Reflectrix) -> f32 {
+    let lengths = [prng.within(0.0, 1.05 * rfx.dmaxkm), prng.within(0.0, 4000.0)];
+    ghop_of(prng.among(&lengths))
+}
+
 /// An adversarial walk, or one whose lengths zigzag or are equal, and a length about those of its
 /// rows.
 pub fn adversarial(prng: &mut Prng) -> Job {
     let mut walk = findf::adversarial(prng);
-    match prng.below(4) {
-        0 => turn_heights(prng, &mut walk, [zigzag, zigzag, flat, any_height]),
-        _ => {}
+    if prng.below(4) == 0 {
+        turn_heights(prng, &mut walk);
     }
     let rfx = walked(&walk);
     let row = prng.below(rfx.rows_this_call.max(1));
@@ -54,7 +59,7 @@ pub fn about_limits(prng: &mut Prng) -> Job {
     Job { walk, ghop: prng.among(&about) }
 }
 
-/// A height for a row of the tables, the row's number given.
+/// A height for a row of the tables.
 type Height = fn(&mut Prng, usize) -> f32;
 
 /// Low and high in turn: the lengths lie on the two sides of many a length.
@@ -81,7 +86,8 @@ fn any_height(prng: &mut Prng, _row: usize) -> f32 {
 
 /// Heights of one manner, and entries by which the walk goes through the rows of a layer, one or
 /// two to an angle, or stays on one. The layers end at angles well between 0 and 90.
-fn turn_heights(prng: &mut Prng, walk: &mut FindfJob, manners: [Height; 4]) {
+fn turn_heights(prng: &mut Prng, walk: &mut FindfJob) {
+    let manners: [Height; 4] = [zigzag, zigzag, flat, any_height];
     let height = prng.among(&manners);
     walk.hprim = std::array::from_fn(|row| height(prng, row));
     let low = prng.below(2) == 0;

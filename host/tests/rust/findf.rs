@@ -1,4 +1,4 @@
-use host::findf::{about_limits, adversarial, check_jobs, realistic, take_off_angles};
+use host::findf::{about_limits, adversarial, check_jobs, realistic, take_off_angles, OURS};
 use host::oracle;
 
 #[test]
@@ -8,16 +8,16 @@ fn the_take_off_angles_are_the_rusts() {
 
 #[test]
 fn findf_on_realistic_jobs() {
-    let tally = check_jobs(18, 100_000, realistic);
-    tally.print("realistic");
+    let tally = check_jobs(&OURS, 18, 100_000, realistic).unwrap();
+    tally.print("findf, realistic");
     assert_eq!(tally.refusals[0], 100_000);
     assert!(tally.layers.iter().all(|jobs| *jobs > 10_000), "{:?}", tally.layers);
 }
 
 #[test]
 fn findf_on_adversarial_jobs() {
-    let tally = check_jobs(19, 200_000, adversarial);
-    tally.print("adversarial");
+    let tally = check_jobs(&OURS, 19, 200_000, adversarial).unwrap();
+    tally.print("findf, adversarial");
     assert_eq!(tally.refusals[0], 200_000);
     assert!(tally.layers.iter().all(|jobs| *jobs > 20_000), "{:?}", tally.layers);
     assert!(tally.dead > 20_000, "{}", tally.dead);
@@ -28,8 +28,8 @@ fn findf_on_adversarial_jobs() {
 
 #[test]
 fn findf_about_the_limits() {
-    let tally = check_jobs(20, 100_000, about_limits);
-    tally.print("about the limits");
+    let tally = check_jobs(&OURS, 20, 100_000, about_limits).unwrap();
+    tally.print("findf, about the limits");
     for number in [0, 3, 4, 5, 6, 8, 9, 10] {
         assert!(tally.refusals[number] > 2_000, "{number}: {:?}", tally.refusals);
     }

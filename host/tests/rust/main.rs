@@ -9,6 +9,8 @@ mod findf;
 #[cfg(oracle)]
 mod fnorml;
 #[cfg(oracle)]
+mod job;
+#[cfg(oracle)]
 mod prbmuf;
 #[cfg(oracle)]
 mod worked_cases;

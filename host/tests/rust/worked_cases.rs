@@ -1,10 +1,10 @@
 //! Document 01's worked cases of findf and fdist, on the library and on the oracle itself.
 
 use host::entries::{FdistJob, FindfJob, HopModes, Reflectrix, Searched, Walked};
+use host::findf::Walk;
 use host::oracle::{self, as_it_comes, led};
 use host::{fdist, findf};
 
-type Walk = fn(Reflectrix, &FindfJob) -> Walked;
 type Search = fn(HopModes, &FdistJob) -> Searched;
 
 /// Stands for a count that nothing counts.
@@ -125,5 +125,5 @@ fn the_rust_as_it_comes_gives_the_worked_cases() {
 #[test]
 fn the_led_rust_gives_the_worked_cases() {
     uncounted!(led);
-    check(findf::counted, fdist::counted);
+    check(findf::led, fdist::led);
 }

@@ -1,0 +1,6 @@
+//! Document 01's constants, which the Rust has in its module of this name.
+
+pub const RZ: f32 = 6370.0;
+pub const D2R: f32 = 0.01745329251;
+pub const R2D: f32 = 57.295779513;
+pub const PIO2: f32 = 1.570796326;

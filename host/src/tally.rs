@@ -1,0 +1,143 @@
+//! What checked jobs came to: a test that asks for enough of each kind cannot go blind.
+
+#[cfg(oracle)]
+use crate::differences::Differences;
+
+/// What a tried pair can give.
+pub const GIVEN: [&str; 5] = ["nothing", "first row", "equal lengths", "second row", "spot"];
+
+pub struct Tally {
+    /// How many jobs were refused by each number; accepted ones at 0.
+    pub refusals: [u64; 14],
+
+    // Of walks.
+    pub walks: u64,
+    /// How many wrote rows of each layer, and how many had a dead F2.
+    pub layers: [u64; 3],
+    pub dead: u64,
+    /// How many have a row whose length is NaN.
+    pub nan: u64,
+    pub most_rows: usize,
+    /// The most rows and looks beyond nang.
+    pub rows_beyond: i64,
+    pub looks_beyond: i64,
+
+    // Of searches.
+    pub searches: u64,
+    /// How many found 0 to 6 rays.
+    pub rays: [u64; 7],
+    /// How many tried 0 to 44 pairs.
+    pub pairs: [u64; 45],
+
+    // Of jobs, from their answers.
+    /// How many pairs gave what, of those tried.
+    pub given: [u64; 5],
+    /// How many jobs jumped a pair that others were tried after.
+    pub jumped: u64,
+    /// How many jobs had rows on the two sides of d, how many of them pairs whose ray had to
+    /// stand in the answer, and how many such pairs there were.
+    pub straddling: u64,
+    pub standing: u64,
+    pub stood: u64,
+
+    #[cfg(oracle)]
+    pub differences: Differences,
+}
+
+impl Default for Tally {
+    fn default() -> Self {
+        Tally {
+            refusals: [0; 14],
+            walks: 0,
+            layers: [0; 3],
+            dead: 0,
+            nan: 0,
+            most_rows: 0,
+            rows_beyond: i64::MIN,
+            looks_beyond: i64::MIN,
+            searches: 0,
+            rays: [0; 7],
+            pairs: [0; 45],
+            given: [0; 5],
+            jumped: 0,
+            straddling: 0,
+            standing: 0,
+            stood: 0,
+            #[cfg(oracle)]
+            differences: Differences::default(),
+        }
+    }
+}
+
+impl Tally {
+    /// An accepted walk: its rows' layers and lengths, and the penetration angle of F2.
+    pub fn add_walk(&mut self, nang: usize, looks: u32, layers: &[u32], lengths: &[f32], f2: f32) {
+        self.walks += 1;
+        for (layer, count) in (1..).zip(&mut self.layers) {
+            *count += u64::from(layers.contains(&layer));
+        }
+        self.dead += u64::from(f2 == 0.0);
+        self.nan += u64::from(lengths.iter().any(|length| length.is_nan()));
+        self.most_rows = self.most_rows.max(layers.len());
+        self.rows_beyond = self.rows_beyond.max(layers.len() as i64 - nang as i64);
+        self.looks_beyond = self.looks_beyond.max(i64::from(looks) - nang as i64);
+    }
+
+    /// An accepted search.
+    pub fn add_search(&mut self, pairs: u32, rays: u32) {
+        self.searches += 1;
+        self.pairs[pairs as usize] += 1;
+        self.rays[rays as usize] += 1;
+    }
+
+    pub fn merge(&mut self, other: Self) {
+        let add = |ours: &mut [u64], theirs: &[u64]| {
+            ours.iter_mut().zip(theirs).for_each(|(ours, theirs)| *ours += theirs);
+        };
+        add(&mut self.refusals, &other.refusals);
+        add(&mut self.layers, &other.layers);
+        add(&mut self.rays, &other.rays);
+        add(&mut self.pairs, &other.pairs);
+        add(&mut self.given, &other.given);
+        self.walks += other.walks;
+        self.dead += other.dead;
+        self.nan += other.nan;
+        self.most_rows = self.most_rows.max(other.most_rows);
+        self.rows_beyond = self.rows_beyond.max(other.rows_beyond);
+        self.looks_beyond = self.looks_beyond.max(other.looks_beyond);
+        self.searches += other.searches;
+        self.jumped += other.jumped;
+        self.straddling += other.straddling;
+        self.standing += other.standing;
+        self.stood += other.stood;
+        #[cfg(oracle)]
+        self.differences.merge(other.differences);
+    }
+
+    pub fn print(&self, name: &str) {
+        println!("{name}: {} accepted, refused {:?}", self.refusals[0], &self.refusals[1..11]);
+        if self.walks > 0 {
+            let Tally { layers: [e, f1, f2], dead, nan, most_rows, .. } = self;
+            println!(
+                "  with rows of E {e}, F1 {f1}, F2 {f2}; {dead} with a dead F2, {nan} with NaN"
+            );
+            let Tally { rows_beyond, looks_beyond, .. } = self;
+            println!(
+                "  most rows {most_rows}; beyond nang {rows_beyond} rows, {looks_beyond} looks"
+            );
+        }
+        if self.searches > 0 {
+            println!("  with 0 to 6 rays {:?}", self.rays);
+            println!("  with 0 to 44 pairs {:?}", self.pairs);
+        }
+        if self.walks > 0 && self.searches > 0 {
+            let Tally { jumped, straddling, standing, stood, .. } = self;
+            let given: Vec<_> = GIVEN.iter().zip(self.given).collect();
+            println!("  pairs gave {given:?}");
+            println!("  {jumped} jumped a pair, {straddling} had straddling rows,");
+            println!("  {standing} with a ray that had to stand, {stood} such rays");
+        }
+        #[cfg(oracle)]
+        println!("  {}", self.differences);
+    }
+}
