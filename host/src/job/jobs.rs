@@ -24,9 +24,10 @@ pub fn realistic(prng: &mut Prng) -> Job {
     Job { walk, ghop }
 }
 
-/// A length of which half are up to the farthest hop or a little beyond.
+/// A length between the nearest and the farthest hop, or a little beyond; or up to 4,000 km.
 fn ghop_within_reach(prng: &mut Prng, rfx: &Reflectrix) -> f32 {
-    let lengths = [prng.within(0.0, 1.05 * rfx.dmaxkm), prng.within(0.0, 4000.0)];
+    let reach = prng.within(0.95 * rfx.dskpkm, 1.02 * rfx.dmaxkm);
+    let lengths = [reach, reach, prng.within(0.0, 4000.0)];
     ghop_of(prng.among(&lengths))
 }
 
