@@ -10,3 +10,8 @@ pub fn ensure(holds: bool, wrong: impl FnOnce() -> String) -> Checked {
         Err(wrong())
     }
 }
+
+/// That two records have no field in which they differ.
+pub fn unchanged(difference: Option<&str>) -> Checked {
+    difference.map_or(Ok(()), |name| Err(format!("another {name}")))
+}

@@ -3,7 +3,7 @@
 mod jobs;
 pub use jobs::*;
 
-use crate::ensure::{ensure, Checked};
+use crate::ensure::{ensure, unchanged, Checked};
 use crate::entries::{self, Figures, FindfJob, Outcome, Reflectrix, Walked};
 use crate::floats;
 use crate::guarded::Guarded;
@@ -81,23 +81,21 @@ pub const OURS: [Walk; 2] = [ours, ours_in_place];
 pub fn check(walks: &[Walk], old: Reflectrix, job: &FindfJob, tally: &mut Tally) -> Checked {
     let refusal = limits::findf(job);
     let FindfJob { k, nang, freq, amind, .. } = *job;
-    let at = |what: &str| format!("{what}: k {k}, nang {nang}, freq {freq:e}, amind {amind:e}");
+    let at = |what: String| format!("{what}: k {k}, nang {nang}, freq {freq:e}, amind {amind:e}");
     tally.refusals[refusal as usize] += 1;
     #[cfg(oracle)]
     let expected = (refusal == 0).then(|| led(old, job));
     let answers: Vec<Walked> = walks.iter().map(|walk| walk(old, job)).collect();
     for w in &answers {
-        ensure(w.refusal == refusal, || at(&format!("{}, not {refusal}", w.refusal)))?;
+        ensure(w.refusal == refusal, || at(format!("{}, not {refusal}", w.refusal)))?;
         if refusal > 0 {
-            let difference = w.rfx.difference(&old, floats::identical);
-            ensure(difference.is_none(), || at(&format!("changed {difference:?}")))?;
-            ensure(w.looks == 0, || at("looks of a refused job"))?;
+            unchanged(w.rfx.difference(&old, floats::identical)).map_err(at)?;
+            ensure(w.looks == 0, || at("looks of a refused job".to_string()))?;
         }
         #[cfg(oracle)]
         if let Some(expected) = &expected {
-            let difference = w.rfx.difference(&expected.rfx, floats::same);
-            ensure(difference.is_none(), || at(&format!("another {difference:?}")))?;
-            ensure(w.looks == expected.looks, || at("other looks"))?;
+            unchanged(w.rfx.difference(&expected.rfx, floats::same)).map_err(at)?;
+            ensure(w.looks == expected.looks, || at("another looks".to_string()))?;
         }
     }
     if refusal == 0 {

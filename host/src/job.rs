@@ -5,6 +5,8 @@ mod jobs;
 pub use jobs::*;
 
 use crate::demand;
+#[cfg(oracle)]
+use crate::ensure::unchanged;
 use crate::ensure::{ensure, Checked};
 use crate::entries::{FindfJob, HopModes, Reflectrix};
 use crate::guarded::GuardedBytes;
@@ -150,14 +152,15 @@ pub fn call_of(variant: &Variant, job: &[u8], answer: &mut [u8]) -> u32 {
 pub type Call = dyn Fn(&[u8], &mut [u8]) -> u32;
 
 /// Holds a call on a job, and on an answer of any old contents, against the limits, the oracle and
-/// demand 3. Both are lent at a place of every 16 bytes between bytes that no call may touch.
+/// demand 3, and tells its number. Both are lent at a place of every 16 bytes between bytes that no
+/// call may touch.
 pub fn check(
     call: &Call,
     job: &[u8],
     old: &[u8],
     places: [usize; 2],
     tally: &mut Tally,
-) -> Checked {
+) -> Checked<u32> {
     let lent_job = GuardedBytes::new(job, places[0]);
     let mut lent_answer = GuardedBytes::new(old, places[1]);
     let number = call(lent_job.lent(), lent_answer.lent_mut());
@@ -167,7 +170,8 @@ pub fn check(
     ensure(number == refusal, || format!("{number}, not {refusal}"))?;
     tally.refusals[refusal as usize] += 1;
     if refusal > 0 {
-        return ensure(lent_answer.lent() == old, || format!("{refusal}, but wrote the answer"));
+        ensure(lent_answer.lent() == old, || format!("{refusal}, but wrote the answer"))?;
+        return Ok(refusal);
     }
     let (job, answer) = (Job::read(job), Answer::from_bytes(lent_answer.lent()));
     let Job { walk: FindfJob { k, nang, freq, amind, .. }, ghop } = job;
@@ -177,10 +181,11 @@ pub fn check(
     #[cfg(oracle)]
     let (expected, expected_rays) = solved(&job, findf::led, fdist::led);
     #[cfg(oracle)]
-    ensure(lent_answer.lent() == expected.bytes(), || {
-        let field = answer.difference(&expected, floats::same);
-        at(field.map_or("a NaN of other bits".to_string(), |name| format!("another {name}")))
-    })?;
+    {
+        unchanged(answer.difference(&expected, floats::same)).map_err(at)?;
+        let identical = lent_answer.lent() == expected.bytes();
+        ensure(identical, || at("a NaN of other bits".to_string()))?;
+    }
     let rays = demand::check(&job, &answer, tally).map_err(at)?;
     #[cfg(oracle)]
     {
@@ -191,7 +196,7 @@ pub fn check(
     let (layers, lengths) = (&answer.imode[..rows], &answer.gdflx[..rows]);
     tally.add_walk(nang, answer.looks, layers, lengths, answer.delpen[2]);
     tally.add_search(answer.pairs, rays);
-    Ok(())
+    Ok(0)
 }
 
 /// Checks jobs of one kind, each on an answer of any contents, at all places in turn.

@@ -1,6 +1,7 @@
-//! Limits 3 to 13: the right number, and nothing changed.
+//! Limits 1 to 13: the right number, and nothing changed.
 
 use host::entries::{self, AllModes, FindfJob, HopModes, MufHour, Reflectrix, Zon};
+use host::job::{self, Answer, Job};
 use host::prng::Prng;
 use host::tally::Tally;
 use host::{fdist, findf, floats, limits};
@@ -196,4 +197,180 @@ fn fdist_refuses_by_the_first_limit_broken() {
     let [accepted, .., five, six, seven] = tally.refusals[..8] else { unreachable!() };
     let expected = [4 * 7 * 7, 10 * 14 * 14, 4 * 7 * 14, 4 * 7 * 7];
     assert_eq!([accepted, five, six, seven], expected);
+}
+
+/// The number that the job call refuses these bytes with, on an answer of this length and any
+/// contents, both at any place. It must be the one by the limits, and a refusal must leave all as
+/// it was.
+fn job_refusal(prng: &mut Prng, bytes: &[u8], answer: usize) -> u32 {
+    let old: Vec<u8> = (0..answer).map(|_| prng.word() as u8).collect();
+    let places = [prng.below(16), prng.below(16)];
+    job::check(&entries::job, bytes, &old, places, &mut Tally::default()).unwrap()
+}
+
+/// A job within the limits at every point, and one that breaks each of limits 3 to 10.
+fn good_and_bad_job(prng: &mut Prng) -> [Vec<u8>; 2] {
+    let mut good = job::realistic(prng);
+    good.walk.fi = [[1.0; 3]; 5];
+    [good.bytes(), vec![0xff; Job::BYTES]]
+}
+
+#[test]
+fn jobs_of_every_wrong_length_are_refused() {
+    let mut prng = Prng::new(35);
+    // Lengths whose last 16 bits are right, too.
+    let (job_length, answer_length) = (Job::BYTES, Answer::BYTES);
+    let job_lengths = (0..job_length + 700).chain([job_length + (1 << 16)]);
+    let answer_lengths = (0..answer_length + 700).chain([answer_length + (1 << 16)]);
+    for job in good_and_bad_job(&mut prng) {
+        let long = [&job[..], &[0x5a; 1 << 16]].concat();
+        for length in job_lengths.clone().filter(|length| *length != job_length) {
+            let other = prng.below(2 * answer_length);
+            for answer in [answer_length, answer_length - 1, answer_length + 1, 0, other] {
+                let number = job_refusal(&mut prng, &long[..length], answer);
+                assert_eq!(number, 1, "job {length}, answer {answer}");
+            }
+        }
+        for answer in answer_lengths.clone().filter(|length| *length != answer_length) {
+            assert_eq!(job_refusal(&mut prng, &job, answer), 2, "answer {answer}");
+            for length in [job_length - 1, job_length + 1, 0] {
+                let number = job_refusal(&mut prng, &long[..length], answer);
+                assert_eq!(number, 1, "job {length}, answer {answer}");
+            }
+        }
+    }
+    let [good, bad] = good_and_bad_job(&mut prng);
+    assert_eq!(job_refusal(&mut prng, &good, answer_length), 0);
+    assert_eq!(job_refusal(&mut prng, &bad, answer_length), 3);
+}
+
+#[test]
+fn jobs_are_taken_at_every_place() {
+    let mut prng = Prng::new(36);
+    let [good, bad] = good_and_bad_job(&mut prng);
+    let old = [0xee; Answer::BYTES];
+    for places in (0..16).flat_map(|job| (0..16).map(move |answer| [job, answer])) {
+        let number = |job: &[u8]| {
+            job::check(&entries::job, job, &old, places, &mut Tally::default()).unwrap()
+        };
+        assert_eq!([number(&good), number(&bad)], [0, 3], "{places:?}");
+    }
+}
+
+/// A word of a job, or the same one at each point, set to a number about its limit.
+struct Edge {
+    limit: u32,
+    words: Vec<usize>,
+    bits: u32,
+    within: bool,
+}
+
+impl Edge {
+    fn set(&self, job: &mut [u8]) {
+        for word in &self.words {
+            job[4 * word..4 * word + 4].copy_from_slice(&self.bits.to_le_bytes());
+        }
+    }
+}
+
+/// The numbers of a job about their limits; of the tables, these rows and entries.
+fn edges(rows: &[usize], entries: &[usize]) -> Vec<Edge> {
+    let mut edges = Vec::new();
+    let counts: [(u32, usize, u32); 2] = [(3, 0, 4), (4, 1, 40)];
+    for (limit, word, most) in counts {
+        for bits in [0, 1, most - 1, most, most + 1, most + (1 << 16), 1 << 31, u32::MAX] {
+            edges.push(Edge { limit, words: vec![word], bits, within: bits <= most });
+        }
+    }
+    let points = |word| (0..5).map(|point: usize| word + 3 * point).collect();
+    let columns = [limits::FVERT, limits::HPRIM, limits::HTRUE, limits::AFAC].into_iter();
+    let columns = (0..).zip(columns).flat_map(|(column, range)| {
+        rows.iter().map(move |row| (9, vec![20 + 30 * column + row], range.clone()))
+    });
+    let floats = [
+        (5, vec![2], limits::FREQ),
+        (6, vec![3], limits::AMIND),
+        (7, vec![4], limits::GHOP),
+        (8, points(6), limits::FI_SECOND),
+        (8, points(7), limits::FI_THIRD),
+    ];
+    for (limit, words, range) in floats.into_iter().chain(columns) {
+        for number in floats::about(*range.start(), *range.end()) {
+            let (words, bits) = (words.clone(), number.to_bits());
+            edges.push(Edge { limit, words, bits, within: range.contains(&number) });
+        }
+    }
+    for (at, entry) in entries.iter().flat_map(|at| findf::ENTRIES.map(|entry| (at, entry))) {
+        let within = limits::IFOB.contains(&entry);
+        edges.push(Edge { limit: 10, words: vec![140 + at], bits: entry as u32, within });
+    }
+    edges
+}
+
+/// The number of the first limit that some edges break, else 0.
+fn first_broken(edges: &[&Edge]) -> u32 {
+    edges.iter().filter(|edge| !edge.within).map(|edge| edge.limit).min().unwrap_or(0)
+}
+
+/// Each by itself, and with a wrong length.
+#[test]
+fn jobs_are_refused_for_each_number_beyond_its_limits() {
+    let mut prng = Prng::new(39);
+    let [good, _] = good_and_bad_job(&mut prng);
+    let rows: Vec<usize> = (0..30).collect();
+    let entries: Vec<usize> = (0..1200).collect();
+    for edge in edges(&rows, &entries) {
+        let mut job = good.clone();
+        edge.set(&mut job);
+        let at = format!("word {:?}, {:08x}", edge.words, edge.bits);
+        assert_eq!(job_refusal(&mut prng, &job, Answer::BYTES), first_broken(&[&edge]), "{at}");
+        assert_eq!(job_refusal(&mut prng, &job, Answer::BYTES - 1), 2, "{at}");
+        assert_eq!(job_refusal(&mut prng, &job[1..], Answer::BYTES), 1, "{at}");
+    }
+}
+
+/// Each with every other: of each table, the first and the last place.
+#[test]
+fn jobs_are_refused_by_the_first_of_two_limits() {
+    let mut prng = Prng::new(37);
+    let [good, _] = good_and_bad_job(&mut prng);
+    let edges = edges(&[0, 29], &[0, 1199]);
+    let mut found = [0; 11];
+    for (i, one) in edges.iter().enumerate() {
+        for two in edges[i..].iter().filter(|two| two.words != one.words) {
+            let mut job = good.clone();
+            one.set(&mut job);
+            two.set(&mut job);
+            let number = job_refusal(&mut prng, &job, Answer::BYTES);
+            let words = (&one.words, &two.words);
+            assert_eq!(
+                number,
+                first_broken(&[one, two]),
+                "{words:?} {:08x?}",
+                [one.bits, two.bits]
+            );
+            found[number as usize] += 1;
+        }
+    }
+    assert!(found[3..].iter().all(|jobs| *jobs > 100), "{found:?}");
+    assert!(found[0] > 1_000, "{found:?}");
+}
+
+/// All limits broken, then mended one by one: the numbers come in document 01's order.
+#[test]
+fn jobs_are_refused_by_the_first_of_all_limits() {
+    let mut prng = Prng::new(38);
+    let [good, _] = good_and_bad_job(&mut prng);
+    let ends = [1, 2, 3, 4, 5, 20, 140, 1340].map(|word| 4 * word);
+    let broken = [f32::NAN, f32::INFINITY, f32::NEG_INFINITY, 2e6];
+    for bad in broken.map(|bad| bad.to_bits().to_le_bytes().repeat(1340)) {
+        let long = [&bad[..], &[0]].concat();
+        assert_eq!(job_refusal(&mut prng, &long, Answer::BYTES - 1), 1);
+        assert_eq!(job_refusal(&mut prng, &bad, Answer::BYTES - 1), 2);
+        // The words up to `end` are the good job's: k, nang, freq and so on.
+        for (end, number) in [0].into_iter().chain(ends).zip([3, 4, 5, 6, 7, 8, 9, 10, 0]) {
+            let job = [&good[..end], &bad[end..]].concat();
+            assert_eq!(job_refusal(&mut prng, &job, Answer::BYTES), number, "{end}");
+        }
+    }
 }

@@ -6,6 +6,9 @@ fn realistic_jobs() {
     let tally = check_jobs(&entries::job, 28, 100_000, realistic).unwrap();
     tally.print("realistic jobs");
     assert_eq!(tally.refusals[0], 100_000);
+    assert!(tally.layers.iter().all(|jobs| *jobs > 10_000), "{:?}", tally.layers);
+    assert!(tally.rays[..6].iter().all(|jobs| *jobs > 100), "{:?}", tally.rays);
+    assert!(tally.standing > 25_000, "{}", tally.standing);
 }
 
 #[test]
@@ -13,10 +16,23 @@ fn adversarial_jobs() {
     let tally = check_jobs(&entries::job, 29, 200_000, adversarial).unwrap();
     tally.print("adversarial jobs");
     assert_eq!(tally.refusals[0], 200_000);
+    assert!(tally.layers.iter().all(|jobs| *jobs > 20_000), "{:?}", tally.layers);
+    assert!(tally.dead > 20_000, "{}", tally.dead);
+    assert!(tally.nan > 2_000, "{}", tally.nan);
+    // Document 01's bounds, which some jobs reach; with 44 rows the last pair tried is the 43rd.
+    assert_eq!((tally.most_rows, tally.rows_beyond, tally.looks_beyond), (44, 4, 28));
+    assert!(tally.pairs[..44].iter().all(|jobs| *jobs > 50), "{:?}", tally.pairs);
+    assert!(tally.rays.iter().all(|jobs| *jobs > 2_000), "{:?}", tally.rays);
+    assert!(tally.given.iter().all(|pairs| *pairs > 1_000), "{:?}", tally.given);
+    assert!(tally.jumped > 5_000, "{}", tally.jumped);
+    assert!(tally.standing > 25_000, "{}", tally.standing);
 }
 
 #[test]
 fn jobs_about_the_limits() {
     let tally = check_jobs(&entries::job, 30, 100_000, about_limits).unwrap();
     tally.print("jobs about the limits");
+    for number in [0].into_iter().chain(3..=10) {
+        assert!(tally.refusals[number] > 2_000, "{number}: {:?}", tally.refusals);
+    }
 }

@@ -11,6 +11,8 @@ mod fnorml;
 #[cfg(oracle)]
 mod job;
 #[cfg(oracle)]
+mod mutants;
+#[cfg(oracle)]
 mod prbmuf;
 #[cfg(oracle)]
 mod worked_cases;

@@ -1,8 +1,11 @@
-//! Document 01's worked cases of findf and fdist, on the library and on the oracle itself.
+//! Document 01's worked cases of findf, fdist and the job call, on the library and on the oracle
+//! itself; and those that are not marked P, run by name.
 
-use host::entries::{FdistJob, FindfJob, HopModes, Reflectrix, Searched, Walked};
+use host::entries::{self, FdistJob, FindfJob, HopModes, Reflectrix, Searched, Walked};
 use host::findf::Walk;
+use host::job::{self, Answer, Call, Job};
 use host::oracle::{self, as_it_comes, led};
+use host::tally::Tally;
 use host::{fdist, findf};
 
 type Search = fn(HopModes, &FdistJob) -> Searched;
@@ -18,9 +21,9 @@ fn zeros() -> Reflectrix {
     oracle::Reflectrix::default().into()
 }
 
-/// findf on tables of zeros with this fvert in row 10.
-fn walk(findf: Walk, fvert: f32, nang: usize) -> Walked {
-    let mut job = FindfJob {
+/// Tables of zeros with this fvert in row 10.
+fn sheet(fvert: f32, nang: usize) -> Job {
+    let mut walk = FindfJob {
         k: 0,
         nang,
         freq: 2.0,
@@ -32,9 +35,14 @@ fn walk(findf: Walk, fvert: f32, nang: usize) -> Walked {
         afac: [0.0; 30],
         ifob: [0; 1200],
     };
-    job.fi[0][2] = 1.0;
-    job.fvert[9] = fvert;
-    findf(zeros(), &job)
+    walk.fi = [[0.0, 0.0, 1.0]; 5];
+    walk.fvert[9] = fvert;
+    Job { walk, ghop: 0.5 }
+}
+
+/// findf on such tables.
+fn walk(findf: Walk, fvert: f32, nang: usize) -> Walked {
+    findf(zeros(), &sheet(fvert, nang).walk)
 }
 
 /// fdist for 3185 km on this reflectrix.
@@ -91,6 +99,79 @@ fn check(findf: Walk, fdist: Search) {
     assert_eq!(found(&[3185.0, 3185.0], 5000.0, 0.0, [1, 0]), none);
     assert_eq!(found(&[3185.0, 4000.0], 5000.0, 12.0, [1, 0]), (-300.0, 1));
     assert_eq!(found(&[3185.0, 4000.0], 3185.0, 0.0, [0, 0]), none);
+}
+
+/// The cases of a job, by a job call.
+fn check_job_call(call: &Call) {
+    let answer = |fvert, nang| {
+        let mut answer = [0xee; Answer::BYTES];
+        assert_eq!(call(&sheet(fvert, nang).bytes(), &mut answer), 0);
+        Answer::from_bytes(&answer)
+    };
+    let a = answer(0.0, 40);
+    assert_eq!((a.rows, a.looks, a.pairs), (0, 0, 0));
+    assert_eq!((a.dskpkm, a.dmaxkm), (-1.0, -1.0));
+    assert_eq!((a.hpmod, a.itmod), ([-1.0; 6], [5; 6]));
+
+    let a = answer(2.0, 0);
+    assert_eq!((a.delpen, a.dskpkm, a.dmaxkm), ([89.9, 90.0, 90.0], 10000.0, 0.0));
+
+    let a = answer(2.0, 1);
+    assert_eq!((a.looks, a.rows), (10, 0));
+
+    let a = answer(2.0, 40);
+    assert_eq!((a.looks, a.rows, a.delfx[0], a.imode[0]), (48, 1, 89.9, 1));
+}
+
+#[test]
+fn the_job_call_gives_the_worked_cases() {
+    check_job_call(&entries::job);
+}
+
+#[test]
+fn the_job_call_of_the_led_rust_gives_the_worked_cases() {
+    check_job_call(&|job, answer| job::call_of(&oracle::counted::VARIANT, job, answer));
+}
+
+/// The number that the job call gives for a sheet, which the oracle must agree with.
+fn number_of(change: impl Fn(&mut FindfJob), length: usize) -> u32 {
+    let mut sheet = sheet(2.0, 40);
+    change(&mut sheet.walk);
+    let mut bytes = sheet.bytes();
+    bytes.resize(length, 0);
+    let old = [0xee; Answer::BYTES];
+    job::check(&entries::job, &bytes, &old, [0, 0], &mut Tally::default()).unwrap()
+}
+
+#[test]
+fn the_root_of_4_is_2() {
+    assert_eq!(entries::sqrt(4.0).to_bits(), 2.0f32.to_bits());
+    assert_eq!(f32::sqrt(4.0).to_bits(), 2.0f32.to_bits());
+}
+
+#[test]
+fn nang_40_is_taken_and_41_refused() {
+    assert_eq!(number_of(|walk| walk.nang = 40, Job::BYTES), 0);
+    assert_eq!(number_of(|walk| walk.nang = 41, Job::BYTES), 4);
+}
+
+#[test]
+fn k_4_is_taken_and_5_refused() {
+    assert_eq!(number_of(|walk| walk.k = 4, Job::BYTES), 0);
+    assert_eq!(number_of(|walk| walk.k = 5, Job::BYTES), 3);
+}
+
+#[test]
+fn ifob_99999_is_taken_and_100000_refused() {
+    for entry in [0, 599, 1199] {
+        assert_eq!(number_of(|walk| walk.ifob[entry] = 99999, Job::BYTES), 0);
+        assert_eq!(number_of(|walk| walk.ifob[entry] = 100000, Job::BYTES), 10);
+    }
+}
+
+#[test]
+fn a_job_of_5360_bytes_is_taken_and_of_5359_and_5361_refused() {
+    assert_eq!([5359, 5360, 5361].map(|length| number_of(|_| {}, length)), [1, 0, 1]);
 }
 
 /// The oracle's forms of findf and fdist that do not count.

@@ -1,0 +1,228 @@
+//! The comparisons find each slip of document 01's "Where a porter slips" and each of its "Versions
+//! that earn nothing": they are put in the library's place, and the very checks that the library
+//! passes must find a difference.
+
+use host::demand;
+use host::entries::{FindfJob, HopModes, Reflectrix};
+use host::findf::Walk;
+use host::job::{self, adversarial, check_jobs, realistic, Answer, Call, Job, KINDS};
+use host::limits;
+use host::oracle::{self, Variant, VARIANTS};
+use host::prng::Prng;
+use host::tally::Tally;
+use host::{fdist, findf};
+
+const JOBS: u64 = 10_000;
+
+/// What the comparison finds in a job call, on jobs of all kinds.
+fn found(call: &Call) -> Option<String> {
+    KINDS.iter().find_map(|(_, kind)| check_jobs(call, 31, JOBS, *kind).err())
+}
+
+fn found_in(variant: &'static Variant) -> Option<String> {
+    found(&|job, answer| job::call_of(variant, job, answer))
+}
+
+/// The led Rust with its counts: a job call as it should be.
+fn right(job: &[u8], answer: &mut [u8]) -> u32 {
+    job::call_of(&oracle::counted::VARIANT, job, answer)
+}
+
+#[test]
+fn the_led_rust_is_found_equal() {
+    assert_eq!(found(&right), None);
+}
+
+/// Slips that a job's answer shows.
+const SLIPS: [Variant; 5] = [
+    oracle::lowest_row::VARIANT,
+    oracle::row_set_back::VARIANT,
+    oracle::next_pair_tried::VARIANT,
+    oracle::next_layer_skipped::VARIANT,
+    oracle::equal_lengths_no_ray::VARIANT,
+];
+
+#[test]
+fn each_slip_is_found() {
+    for slip in &SLIPS {
+        let found = found_in(slip).unwrap_or_else(|| panic!("{} is not found", slip.name));
+        println!("{}: {found}", slip.name);
+    }
+}
+
+/// A findf by value of a variant.
+macro_rules! walk {
+    ($variant:ident) => {
+        (&oracle::$variant::VARIANT, |old: Reflectrix, walk: &FindfJob| {
+            findf::counting(oracle::$variant::findf, old, walk)
+        })
+    };
+}
+
+/// Cleared columns: from the all-zero reflectrix, from which every job starts, they do not show.
+const CLEARED: [(&'static Variant, Walk); 2] = [walk!(htflx_cleared), walk!(imode_cleared)];
+
+#[test]
+fn cleared_columns_are_found_on_used_reflectrices() {
+    let found = |walk: Walk| findf::check_jobs(&[walk], 32, JOBS, findf::realistic).err();
+    assert_eq!(found(walk!(counted).1), None);
+    for (slip, walk) in CLEARED {
+        let difference = found(walk).unwrap_or_else(|| panic!("{} is not found", slip.name));
+        println!("{}: {difference}", slip.name);
+        assert_eq!(found_in(slip), None, "{}", slip.name);
+    }
+}
+
+#[test]
+fn no_variant_is_left_out() {
+    let right = ["as_it_comes", "led", "counted", "counted_as_it_comes"];
+    let slips = SLIPS.iter().chain(CLEARED.map(|(slip, _)| slip)).map(|slip| slip.name);
+    let known: Vec<_> = right.into_iter().chain(slips).collect();
+    assert_eq!(VARIANTS.len(), known.len());
+    assert!(VARIANTS.iter().all(|variant| known.contains(&variant.name)), "{known:?}");
+}
+
+/// The right answer, altered.
+fn altered(job: &[u8], answer: &mut [u8], alter: impl Fn(&Job, &mut Answer)) -> u32 {
+    let number = right(job, answer);
+    if number == 0 {
+        let mut words = Answer::from_bytes(answer);
+        alter(&Job::read(job), &mut words);
+        answer.copy_from_slice(&words.bytes());
+    }
+    number
+}
+
+/// Fills layer E, feigns the other two: their rows have the height of the row before.
+fn feigns_f1_and_f2(job: &[u8], answer: &mut [u8]) -> u32 {
+    altered(job, answer, |_, words| {
+        for row in 1..words.rows as usize {
+            if words.imode[row] > 1 {
+                words.hpflx[row] = words.hpflx[row - 1];
+            }
+        }
+    })
+}
+
+fn reports_nang_and_28_looks(job: &[u8], answer: &mut [u8]) -> u32 {
+    altered(job, answer, |job, words| words.looks = job.walk.nang as u32 + 28)
+}
+
+fn says_no_ray(job: &[u8], answer: &mut [u8]) -> u32 {
+    altered(job, answer, |_, words| {
+        words.pairs = 0;
+        (words.delmod, words.hpmod, words.htmod) = ([0.0; 6], [-1.0; 6], [0.0; 6]);
+        (words.fvmod, words.itmod, words.afmod) = ([0.0; 6], [5; 6], [0.0; 6]);
+    })
+}
+
+fn leaves_the_answer_unwritten(job: &[u8], answer: &mut [u8]) -> u32 {
+    limits::job(job, answer.len())
+}
+
+/// One stored reflectrix for every job, with a true search on it.
+fn stores_one_reflectrix(job: &[u8], answer: &mut [u8]) -> u32 {
+    let number = limits::job(job, answer.len());
+    if number == 0 {
+        let stored = realistic(&mut Prng::new(33));
+        let walk = |old: Reflectrix, _: &_| findf::led(old, &stored.walk);
+        let search = |old: HopModes, job: &_| fdist::led(old, job);
+        answer.copy_from_slice(&job::solved(&Job::read(job), walk, search).0.bytes());
+    }
+    number
+}
+
+fn turns_each_job_back(job: &[u8], answer: &mut [u8]) -> u32 {
+    match limits::job(job, answer.len()) {
+        0 => 10,
+        number => number,
+    }
+}
+
+/// A job call by its name.
+type Version = (&'static str, fn(&[u8], &mut [u8]) -> u32);
+
+const EARN_NOTHING: [Version; 6] = [
+    ("fills layer E, feigns the other two", feigns_f1_and_f2),
+    ("reports nang + 28 looks each time", reports_nang_and_28_looks),
+    ("says \"no ray\" before trying a pair", says_no_ray),
+    ("returns 0, answer unwritten", leaves_the_answer_unwritten),
+    ("one stored reflectrix for every job", stores_one_reflectrix),
+    ("turns each job back", turns_each_job_back),
+];
+
+#[test]
+fn each_version_that_earns_nothing_is_found() {
+    for (name, call) in EARN_NOTHING {
+        let found = found(&call).unwrap_or_else(|| panic!("{name}: is not found"));
+        println!("{name}: {found}");
+    }
+}
+
+/// Refuses as it should, but has begun to write.
+fn writes_before_it_refuses(job: &[u8], answer: &mut [u8]) -> u32 {
+    if let Some(byte) = answer.last_mut() {
+        *byte = !*byte;
+    }
+    right(job, answer)
+}
+
+fn tests_ghop_before_amind(job: &[u8], answer: &mut [u8]) -> u32 {
+    match right(job, answer) {
+        6 if !limits::GHOP.contains(&Job::read(job).ghop) => 7,
+        number => number,
+    }
+}
+
+fn writes_another_nan(job: &[u8], answer: &mut [u8]) -> u32 {
+    let number = right(job, answer);
+    for word in answer.chunks_exact_mut(4).filter(|word| *word == [0, 0, 0xc0, 0x7f]) {
+        word.copy_from_slice(&[0, 0, 0xc0, 0xff]);
+    }
+    number
+}
+
+const OTHERS: [Version; 3] = [
+    ("writes before it refuses", writes_before_it_refuses),
+    ("tests ghop before amind", tests_ghop_before_amind),
+    ("writes another NaN", writes_another_nan),
+];
+
+#[test]
+fn other_wrong_versions_are_found() {
+    for (name, call) in OTHERS {
+        let found = found(&call).unwrap_or_else(|| panic!("{name}: is not found"));
+        println!("{name}: {found}");
+    }
+}
+
+/// Whether demand 3's own check, without an oracle beside it, finds an altered answer.
+fn demand_3_finds(alter: impl Fn(&Job, &mut Answer)) -> bool {
+    let mut prng = Prng::new(34);
+    (0..JOBS).any(|_| {
+        let job = adversarial(&mut prng);
+        let mut answer = job::solved(&job, findf::led, fdist::led).0;
+        alter(&job, &mut answer);
+        demand::check(&job, &answer, &mut Tally::default()).is_err()
+    })
+}
+
+#[test]
+fn demand_3_alone_finds_what_breaks_it() {
+    assert!(!demand_3_finds(|_, _| {}));
+    assert!(demand_3_finds(|job, answer| answer.looks = job.walk.nang as u32 + 29));
+    assert!(demand_3_finds(|job, answer| answer.rows = job.walk.nang as u32 + 5));
+    assert!(demand_3_finds(|_, answer| answer.pairs = 45));
+    // A ray below the minimum angle whose height is not turned.
+    assert!(demand_3_finds(|_, answer| answer.hpmod = answer.hpmod.map(f32::abs)));
+    // No ray; rays one slot on; each field of a ray.
+    assert!(demand_3_finds(|_, answer| answer.hpmod = [-1.0; 6]));
+    assert!(demand_3_finds(|_, answer| {
+        answer.delmod.rotate_right(1);
+        answer.hpmod.rotate_right(1);
+    }));
+    assert!(demand_3_finds(|_, answer| answer.htmod = answer.htmod.map(f32::next_up)));
+    assert!(demand_3_finds(|_, answer| answer.fvmod = answer.fvmod.map(f32::next_up)));
+    assert!(demand_3_finds(|_, answer| answer.afmod = answer.afmod.map(f32::next_up)));
+    assert!(demand_3_finds(|_, answer| answer.itmod = answer.itmod.map(|layer| layer + 1)));
+}
