@@ -18,6 +18,8 @@ pub mod limits;
 #[cfg(oracle)]
 pub mod oracle;
 pub mod page;
+#[cfg(oracle)]
+pub mod peer;
 pub mod prng;
 pub mod record;
 pub mod tally;

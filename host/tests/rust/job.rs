@@ -1,5 +1,7 @@
-use host::entries;
-use host::job::{about_limits, adversarial, check_jobs, realistic};
+use host::job::{about_limits, adversarial, check_jobs, realistic, solved_by, Answer, KINDS};
+use host::oracle::counted_as_it_comes;
+use host::prng::Prng;
+use host::{entries, limits, peer};
 
 #[test]
 fn realistic_jobs() {
@@ -34,5 +36,25 @@ fn jobs_about_the_limits() {
     tally.print("jobs about the limits");
     for number in [0].into_iter().chain(3..=10) {
         assert!(tally.refusals[number] > 2_000, "{number}: {:?}", tally.refusals);
+    }
+}
+
+/// The benchmark's peer does what is timed: it answers as the Rust as it comes.
+#[test]
+fn the_peer_answers_as_the_rust_as_it_comes() {
+    let mut prng = Prng::new(40);
+    for (_, kind) in KINDS {
+        for _ in 0..10_000 {
+            let job = kind(&mut prng);
+            let bytes = job.bytes();
+            if limits::job(&bytes, Answer::BYTES) > 0 {
+                continue;
+            }
+            let mut answer = [0xee; Answer::BYTES];
+            assert_eq!(peer::job(&bytes, &mut answer), 0);
+            let expected = solved_by(&counted_as_it_comes::VARIANT, &job);
+            let expected = Answer { looks: 0, pairs: 0, ..expected };
+            assert!(answer == expected.bytes());
+        }
     }
 }

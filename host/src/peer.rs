@@ -1,0 +1,107 @@
+//! The benchmark's peer: a job call on the Rust as it comes, as one would write it in Rust. It has
+//! no limits but the lengths, and no counts: looks and pairs are 0.
+
+use crate::job::{Answer, Job};
+use crate::oracle::as_it_comes::{fdist, findf};
+use crate::oracle::{AreaTables, HopModes, IonoState, Ionogram, Numerics, Reflectrix};
+
+fn word(bytes: &[u8]) -> [u8; 4] {
+    [bytes[0], bytes[1], bytes[2], bytes[3]]
+}
+
+/// Takes words from the front of a job.
+struct Words<'a>(&'a [u8]);
+
+impl Words<'_> {
+    fn take(&mut self, count: usize) -> impl Iterator<Item = [u8; 4]> + '_ {
+        let (words, rest) = self.0.split_at(4 * count);
+        self.0 = rest;
+        words.chunks_exact(4).map(word)
+    }
+
+    fn count(&mut self) -> usize {
+        self.take(1).map(u32::from_le_bytes).next().unwrap_or_default() as usize
+    }
+
+    fn float(&mut self) -> f32 {
+        self.floats::<1>()[0]
+    }
+
+    fn floats<const N: usize>(&mut self) -> [f32; N] {
+        let mut floats = [0.0; N];
+        floats.iter_mut().zip(self.take(N)).for_each(|(x, word)| *x = f32::from_le_bytes(word));
+        floats
+    }
+
+    fn ints(&mut self, ints: &mut [i32]) {
+        let words = self.take(ints.len());
+        ints.iter_mut().zip(words).for_each(|(x, word)| *x = i32::from_le_bytes(word));
+    }
+}
+
+/// Puts words into an answer, from its front on.
+struct Room<'a>(&'a mut [u8]);
+
+impl Room<'_> {
+    fn put(&mut self, words: impl ExactSizeIterator<Item = u32>) {
+        let (room, rest) = std::mem::take(&mut self.0).split_at_mut(4 * words.len());
+        for (bytes, word) in room.chunks_exact_mut(4).zip(words) {
+            bytes.copy_from_slice(&word.to_le_bytes());
+        }
+        self.0 = rest;
+    }
+
+    fn floats(&mut self, floats: &[f32]) {
+        self.put(floats.iter().map(|x| if x.is_nan() { 0x7fc0_0000 } else { x.to_bits() }));
+    }
+
+    fn ints(&mut self, ints: &[i32]) {
+        self.put(ints.iter().map(|x| *x as u32));
+    }
+}
+
+#[inline(never)]
+pub fn job(job: &[u8], answer: &mut [u8]) -> u32 {
+    if job.len() != Job::BYTES {
+        return 1;
+    }
+    if answer.len() != Answer::BYTES {
+        return 2;
+    }
+    let mut words = Words(job);
+    let (k, nang) = (words.count(), words.count());
+    let (freq, amind, ghop) = (words.float(), words.float(), words.float());
+    let fi = std::array::from_fn(|_| words.floats());
+    let state = IonoState { fi, numerics: Numerics };
+    let mut area = AreaTables {
+        ion: Ionogram {
+            fvert: words.floats(),
+            hprim: words.floats(),
+            htrue: words.floats(),
+            afac: words.floats(),
+        },
+        ifob: [[0; 30]; 40],
+    };
+    words.ints(area.ifob.as_flattened_mut());
+
+    let mut rfx = Reflectrix::default();
+    findf(&mut rfx, &state, &area, k, freq, amind, nang);
+    let mut m = HopModes::default();
+    fdist(&mut m, &rfx, ghop, amind, freq);
+
+    let mut room = Room(answer);
+    room.ints(&[rfx.rows_this_call as i32, 0, 0]);
+    room.floats(&rfx.delpen);
+    room.floats(&[rfx.dskpkm, rfx.delskp, rfx.hpskp, rfx.htskp, rfx.dmaxkm, rfx.fvskp]);
+    room.ints(&[rfx.iskp, rfx.iaftxr as i32]);
+    for column in [&rfx.delfx, &rfx.hpflx, &rfx.htflx, &rfx.gdflx, &rfx.fvflx, &rfx.afflx] {
+        room.floats(column);
+    }
+    room.ints(&rfx.imode);
+    for column in [&m.delmod, &m.hpmod, &m.htmod, &m.fvmod] {
+        room.floats(column);
+    }
+    room.ints(&m.itmod);
+    room.floats(&m.afmod);
+    0
+}
