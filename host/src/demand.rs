@@ -118,11 +118,46 @@ impl Rows<'_> {
     }
 }
 
+/// Two neighbouring rows, by the words of demand 3.
+#[derive(Clone, Copy)]
+struct Pair {
+    straddles: bool,
+    /// "all rows up to and including both have positive heights"
+    heights: bool,
+    given: Given,
+    ray: Option<Ray>,
+    /// "It reaches the minimum angle where its angle is ≥ amind; NaN never is."
+    reaches: bool,
+    /// "A pair is jumped if the pair just before it is not jumped and gives its second row as it
+    /// is."
+    jumped: bool,
+    /// "The rays that came before are those of lower pairs, jumped ones apart, that reach the
+    /// minimum angle."
+    before: usize,
+}
+
+impl Rows<'_> {
+    fn pairs(&self, amind: f32) -> [Pair; 44] {
+        let (mut before, mut jumped) = (0, false);
+        let mut heights = self.answer.hpflx[0] > 0.0;
+        std::array::from_fn(|i| {
+            let ((g1, g2), (given, ray)) = (self.lengths(i), self.ray(i));
+            let straddles = straddles(g1, g2, self.d);
+            let reaches = ray.is_some_and(|ray| ray.del >= amind);
+            heights &= self.answer.hpflx[i + 1] > 0.0;
+            let pair = Pair { straddles, heights, given, ray, reaches, jumped, before };
+            before += usize::from(!jumped && reaches);
+            jumped = !jumped && given == Given::Second;
+            pair
+        })
+    }
+}
+
 /// Checks each clause of demand 3 on the answer of an accepted job, and tells the rays that the
 /// tried pairs gave.
 pub fn check(job: &Job, answer: &Answer, tally: &mut Tally) -> Checked<u32> {
     let (nang, amind) = (job.walk.nang as u32, job.walk.amind);
-    let &Answer { rows, looks, pairs, dmaxkm, .. } = answer;
+    let &Answer { rows, looks, pairs, .. } = answer;
     // "at most nang + 28 looks .. at most nang + 4 rows .. at most 44 row pairs"
     ensure(looks <= nang + 28, || format!("{looks} looks with {nang} angles"))?;
     ensure(rows <= nang + 4, || format!("{rows} rows with {nang} angles"))?;
@@ -132,51 +167,43 @@ pub fn check(job: &Job, answer: &Answer, tally: &mut Tally) -> Checked<u32> {
     for slot in (0..6).map(|i| of.slot(i)).filter(|slot| slot.hp > 0.0) {
         ensure(slot.del >= amind, || format!("{slot:?} is below {amind}"))?;
     }
-
-    let (mut straddling, mut stood) = (0, 0);
-    let (mut tried, mut rays, mut jumps, mut tries_after) = (0, 0, 0, false);
-    let (mut before, mut jumped) = (0, false);
-    let mut heights = answer.hpflx[0] > 0.0;
-    for pair in 0..44 {
-        let (g1, g2) = of.lengths(pair);
-        let (given, ray) = of.ray(pair);
-        let reaches = ray.is_some_and(|ray| ray.del >= amind);
-        heights &= answer.hpflx[pair + 1] > 0.0;
-        if straddles(g1, g2, of.d) {
-            straddling += 1;
-            // "Hop lengths strictly on either side of d always give one, and demand 3 holds that
-            // too."
-            let Some(ray) = ray else { return Err(format!("no ray of {g1} and {g2}")) };
-            // "If the asked one is below the farthest hop, all rows up to and including both have
-            // positive heights, their ray reaches the minimum angle, fewer than six rays came
-            // before and no "second row" hit jumped them, then their ray stands in the answer"
-            if of.d < dmaxkm && heights && reaches && before < 6 && !jumped {
-                stood += 1;
-                let slot = of.slot(before);
-                ensure(slot.is(ray), || format!("pair {pair}: slot {slot:?}, not {ray:?}"))?;
-            }
-        }
-        // The search tries pairs that are not jumped, as many as the answer says.
-        if tried < pairs {
-            if jumped {
-                jumps += 1;
-            } else {
-                tried += 1;
-                tries_after |= jumps > 0;
-                rays += u32::from(reaches);
-                tally.given[given as usize] += 1;
-            }
-        }
-        // "The rays that came before are those of lower pairs, jumped ones apart, that reach the
-        // minimum angle." "A pair is jumped if the pair just before it is not jumped and gives its
-        // second row as it is."
-        before += usize::from(!jumped && reaches);
-        jumped = !jumped && given == Given::Second;
-    }
-    tally.jumped += u64::from(tries_after);
-    tally.straddling += u64::from(straddling > 0);
-    tally.standing += u64::from(stood > 0);
-    tally.stood += stood;
+    let pairs = of.pairs(amind);
+    check_straddling(&of, &pairs, tally)?;
+    let rays = count_tried(&of, &pairs, tally);
     ensure(rays <= 6, || format!("{rays} rays"))?;
     Ok(rays)
+}
+
+/// "Take any two neighbouring rows whose hop lengths lie strictly on either side of the asked one."
+fn check_straddling(of: &Rows, pairs: &[Pair; 44], tally: &mut Tally) -> Checked {
+    let (mut straddling, mut stood) = (false, 0);
+    for (i, pair) in pairs.iter().enumerate().filter(|(_, pair)| pair.straddles) {
+        straddling = true;
+        // "Hop lengths strictly on either side of d always give one, and demand 3 holds that too."
+        let Some(ray) = pair.ray else { return Err(format!("pair {i} straddles without a ray")) };
+        let Pair { heights, reaches, jumped, before, .. } = *pair;
+        // "If the asked one is below the farthest hop, .. then their ray stands in the answer, in
+        // the slot next after those that came before."
+        if of.d < of.answer.dmaxkm && heights && reaches && before < 6 && !jumped {
+            let slot = of.slot(before);
+            ensure(slot.is(ray), || format!("pair {i}: slot {slot:?}, not {ray:?}"))?;
+            stood += 1;
+        }
+    }
+    tally.straddling += u64::from(straddling);
+    tally.standing += u64::from(stood > 0);
+    tally.stood += stood;
+    Ok(())
+}
+
+/// Counts what the tried pairs gave, which are those not jumped, as many as the answer says; tells
+/// how many of them gave a ray that reaches the minimum angle.
+fn count_tried(of: &Rows, pairs: &[Pair; 44], tally: &mut Tally) -> u32 {
+    let not_jumped = (0..44).filter(|i| !pairs[*i].jumped);
+    let tried: Vec<usize> = not_jumped.take(of.answer.pairs as usize).collect();
+    tried.iter().for_each(|i| tally.given[pairs[*i].given as usize] += 1);
+    let after_a_jump = || tried.iter().filter(|i| **i > 0 && pairs[**i - 1].jumped);
+    tally.jumped += u64::from(after_a_jump().next().is_some());
+    tally.passed += u64::from(after_a_jump().any(|i| of.answer.hpflx[*i] <= 0.0));
+    tried.iter().filter(|i| pairs[**i].reaches).count() as u32
 }

@@ -173,30 +173,35 @@ pub fn check(
         ensure(lent_answer.lent() == old, || format!("{refusal}, but wrote the answer"))?;
         return Ok(refusal);
     }
-    let (job, answer) = (Job::read(job), Answer::from_bytes(lent_answer.lent()));
+    let job = Job::read(job);
     let Job { walk: FindfJob { k, nang, freq, amind, .. }, ghop } = job;
-    let at = |what: String| {
-        format!("{what}: k {k}, nang {nang}, freq {freq:e}, amind {amind:e}, ghop {ghop:e}")
-    };
+    check_answer(&job, lent_answer.lent(), tally).map_err(|wrong| {
+        format!("{wrong}: k {k}, nang {nang}, freq {freq:e}, amind {amind:e}, ghop {ghop:e}")
+    })?;
+    Ok(0)
+}
+
+/// An accepted job's answer: all words as the oracle has them, NaN only as 7FC00000, and demand 3.
+fn check_answer(job: &Job, bytes: &[u8], tally: &mut Tally) -> Checked {
+    let answer = Answer::from_bytes(bytes);
     #[cfg(oracle)]
-    let (expected, expected_rays) = solved(&job, findf::led, fdist::led);
+    let (expected, expected_rays) = solved(job, findf::led, fdist::led);
     #[cfg(oracle)]
     {
-        unchanged(answer.difference(&expected, floats::same)).map_err(at)?;
-        let identical = lent_answer.lent() == expected.bytes();
-        ensure(identical, || at("a NaN of other bits".to_string()))?;
+        unchanged(answer.difference(&expected, floats::same))?;
+        ensure(bytes == expected.bytes(), || "a NaN of other bits".to_string())?;
     }
-    let rays = demand::check(&job, &answer, tally).map_err(at)?;
+    let rays = demand::check(job, &answer, tally)?;
     #[cfg(oracle)]
     {
-        ensure(rays == expected_rays, || at(format!("{rays} rays, not {expected_rays}")))?;
-        tally.differences.add(&expected, &solved_by(&counted_as_it_comes::VARIANT, &job));
+        ensure(rays == expected_rays, || format!("{rays} rays, not {expected_rays}"))?;
+        tally.differences.add(&expected, &solved_by(&counted_as_it_comes::VARIANT, job));
     }
     let rows = answer.rows as usize;
     let (layers, lengths) = (&answer.imode[..rows], &answer.gdflx[..rows]);
-    tally.add_walk(nang, answer.looks, layers, lengths, answer.delpen[2]);
+    tally.add_walk(job.walk.nang, answer.looks, layers, lengths, answer.delpen[2]);
     tally.add_search(answer.pairs, rays);
-    Ok(0)
+    Ok(())
 }
 
 /// Checks jobs of one kind, each on an answer of any contents, at all places in turn.

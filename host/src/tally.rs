@@ -32,8 +32,10 @@ pub struct Tally {
     // Of jobs, from their answers.
     /// How many pairs gave what, of those tried.
     pub given: [u64; 5],
-    /// How many jobs jumped a pair that others were tried after.
+    /// How many jobs jumped a pair that others were tried after, and how many of them passed a row
+    /// whose height is not above 0 by that.
     pub jumped: u64,
+    pub passed: u64,
     /// How many jobs had rows on the two sides of d, how many of them pairs whose ray had to
     /// stand in the answer, and how many such pairs there were.
     pub straddling: u64,
@@ -60,6 +62,7 @@ impl Default for Tally {
             pairs: [0; 45],
             given: [0; 5],
             jumped: 0,
+            passed: 0,
             straddling: 0,
             standing: 0,
             stood: 0,
@@ -107,6 +110,7 @@ impl Tally {
         self.looks_beyond = self.looks_beyond.max(other.looks_beyond);
         self.searches += other.searches;
         self.jumped += other.jumped;
+        self.passed += other.passed;
         self.straddling += other.straddling;
         self.standing += other.standing;
         self.stood += other.stood;
@@ -131,11 +135,13 @@ impl Tally {
             println!("  with 0 to 44 pairs {:?}", self.pairs);
         }
         if self.walks > 0 && self.searches > 0 {
-            let Tally { jumped, straddling, standing, stood, .. } = self;
+            let Tally { jumped, passed, straddling, standing, stood, .. } = self;
             let given: Vec<_> = GIVEN.iter().zip(self.given).collect();
             println!("  pairs gave {given:?}");
-            println!("  {jumped} jumped a pair, {straddling} had straddling rows,");
-            println!("  {standing} with a ray that had to stand, {stood} such rays");
+            println!("  {jumped} jumped a pair, {passed} passed a row of no height so");
+            println!(
+                "  {straddling} had straddling rows; in {standing} a ray had to stand, {stood} in all"
+            );
         }
         #[cfg(oracle)]
         println!("  {}", self.differences);

@@ -7,6 +7,13 @@ use host::prng::Prng;
 use std::hint::black_box;
 use std::time::Instant;
 
+#[cfg(oracle)]
+use {
+    host::job::{self, Answer, Job, Kind},
+    host::peer,
+    std::ops::RangeInclusive,
+};
+
 const INPUTS: usize = 4096;
 const ROUNDS: usize = 50;
 
@@ -82,74 +89,71 @@ fn main() {
     println!("the Rust source is not at hand: set HFCAST_SRC for the others");
 }
 
-// Few enough to stay in the processor's caches.
+/// Few enough to stay in the processor's caches.
 #[cfg(oracle)]
 const JOBS: usize = 64;
 
-/// The job call, bytes in and bytes out, beside the Rust as it comes with such a call.
+/// Jobs of one kind that have so many rows, and how many they have on average.
+#[cfg(oracle)]
+fn jobs_of(kind: Kind, rows: RangeInclusive<u32>) -> (Vec<Vec<u8>>, f64) {
+    let (mut prng, mut jobs, mut sum) = (Prng::new(1), Vec::new(), 0);
+    while jobs.len() < JOBS {
+        let job = kind(&mut prng).bytes();
+        let mut answer = [0; Answer::BYTES];
+        assert_eq!(entries::job(&job, &mut answer), 0);
+        let found = Answer::from_bytes(&answer).rows;
+        if rows.contains(&found) {
+            jobs.push(job);
+            sum += found;
+        }
+    }
+    (jobs, f64::from(sum) / JOBS as f64)
+}
+
+/// The job call, bytes in and bytes out, and the Rust as it comes with such a call.
+#[cfg(oracle)]
+fn race_jobs(jobs: &[Vec<u8>]) -> [f64; 2] {
+    let [mut ours, mut rust] = [[0; Answer::BYTES]; 2];
+    race([
+        &mut |i| {
+            black_box(entries::job(black_box(&jobs[i % JOBS]), black_box(&mut ours)));
+        },
+        &mut |i| {
+            black_box(peer::job(black_box(&jobs[i % JOBS]), black_box(&mut rust)));
+        },
+    ])
+}
+
 #[cfg(oracle)]
 fn jobs() {
-    use host::job::{adversarial, realistic, Answer, Job, Kind};
-    use host::peer;
-
-    let [mut ours_answer, mut rust_answer] = [[0; Answer::BYTES]; 2];
-    let mut race_jobs = |jobs: &[Vec<u8>]| {
-        race([
-            &mut |i| {
-                let number = entries::job(black_box(&jobs[i % JOBS]), black_box(&mut ours_answer));
-                black_box(number);
-            },
-            &mut |i| {
-                let number = peer::job(black_box(&jobs[i % JOBS]), black_box(&mut rust_answer));
-                black_box(number);
-            },
-        ])
-    };
-    // As many of a kind as have so many rows.
-    let jobs_of = |kind: Kind, wanted: std::ops::RangeInclusive<u32>| -> (Vec<Vec<u8>>, f64) {
-        let (mut prng, mut jobs, mut rows) = (Prng::new(1), Vec::new(), 0);
-        while jobs.len() < JOBS {
-            let job = kind(&mut prng).bytes();
-            let mut answer = [0; Answer::BYTES];
-            assert_eq!(entries::job(&job, &mut answer), 0);
-            let answer = Answer::from_bytes(&answer);
-            if wanted.contains(&answer.rows) {
-                jobs.push(job);
-                rows += answer.rows;
-            }
-        }
-        (jobs, f64::from(rows) / JOBS as f64)
-    };
-
-    for (name, kind) in [("realistic", realistic as Kind), ("adversarial", adversarial)] {
+    for (name, kind) in [("realistic", job::realistic as Kind), ("adversarial", job::adversarial)] {
         let (jobs, rows) = jobs_of(kind, 0..=45);
         let [ours, rust] = race_jobs(&jobs);
         print(&format!("job, {name}"), ours, rust);
         println!("  {rows:.1} rows on average");
     }
-    let (without, _) = jobs_of(realistic, 0..=0);
+    let (without, _) = jobs_of(job::realistic, 0..=0);
     let [ours, rust] = race_jobs(&without);
     print("job without rows", ours, rust);
-    let (with, rows) = jobs_of(realistic, 30..=45);
-    let [ours_with, rust_with] = race_jobs(&with);
-    print("job of many rows", ours_with, rust_with);
-    print("  of them, each row", (ours_with - ours) / rows, (rust_with - rust) / rows);
+    let (many, rows) = jobs_of(job::realistic, 30..=45);
+    let [ours_many, rust_many] = race_jobs(&many);
+    print("job of many rows", ours_many, rust_many);
+    print("  each row of them", (ours_many - ours) / rows, (rust_many - rust) / rows);
+    refused("refused by limit 1", 1, &without, |job| job.truncate(Job::BYTES - 1));
+    refused("  by 3: all is decoded", 3, &without, |job| job[0] = 5);
+    refused("  by 10: the last entry", 10, &without, |job| job[Job::BYTES - 1] = 0x7f);
+}
 
-    // What a refused job has done by then.
-    let refusals: [(u32, &str, fn(&mut Vec<u8>)); 3] = [
-        (1, "refused by limit 1", |job| job.truncate(Job::BYTES - 1)),
-        (3, "  by 3: all is decoded", |job| job[0] = 5),
-        (10, "  by 10, last entry", |job| job[Job::BYTES - 1] = 0x7f),
-    ];
-    for (number, name, change) in refusals {
-        let mut jobs = without.clone();
-        jobs.iter_mut().for_each(change);
-        let ours = time(|i| {
-            let answer = black_box(&mut ours_answer);
-            assert_eq!(entries::job(black_box(&jobs[i % JOBS]), answer), number);
-        });
-        println!("{name:<22} {ours:7.1} ns");
-    }
+/// What a refused job has cost by then.
+#[cfg(oracle)]
+fn refused(name: &str, number: u32, jobs: &[Vec<u8>], change: fn(&mut Vec<u8>)) {
+    let (mut jobs, mut answer) = (jobs.to_vec(), [0; Answer::BYTES]);
+    jobs.iter_mut().for_each(change);
+    let ours = time(|i| {
+        let found = entries::job(black_box(&jobs[i % JOBS]), black_box(&mut answer));
+        assert_eq!(found, number);
+    });
+    println!("{name:<23} {ours:6.1} ns");
 }
 
 /// findf on realistic jobs, and fdist on what such walks leave; the led Rust too, which has the

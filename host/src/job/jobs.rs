@@ -65,7 +65,7 @@ type Height = fn(&mut Prng, usize) -> f32;
 
 /// Low and high in turn: the lengths lie on the two sides of many a length.
 fn zigzag(prng: &mut Prng, row: usize) -> f32 {
-    if row % 2 == 0 {
+    if row.is_multiple_of(2) {
         prng.within(50.0, 300.0)
     } else {
         prng.within(800.0, 2000.0)
@@ -74,7 +74,7 @@ fn zigzag(prng: &mut Prng, row: usize) -> f32 {
 
 /// So low that lengths are a few metres or none, but for a row here and there: lengths are equal.
 fn flat(prng: &mut Prng, row: usize) -> f32 {
-    if row % 10 == 0 {
+    if row.is_multiple_of(10) {
         prng.within(100.0, 400.0)
     } else {
         prng.among(&[1e-10, 1e-20, f32::from_bits(1)])

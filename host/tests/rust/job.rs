@@ -27,6 +27,7 @@ fn adversarial_jobs() {
     assert!(tally.rays.iter().all(|jobs| *jobs > 2_000), "{:?}", tally.rays);
     assert!(tally.given.iter().all(|pairs| *pairs > 1_000), "{:?}", tally.given);
     assert!(tally.jumped > 5_000, "{}", tally.jumped);
+    assert!(tally.passed > 20, "{}", tally.passed);
     assert!(tally.standing > 25_000, "{}", tally.standing);
 }
 

@@ -60,7 +60,7 @@ macro_rules! walk {
 }
 
 /// Cleared columns: from the all-zero reflectrix, from which every job starts, they do not show.
-const CLEARED: [(&'static Variant, Walk); 2] = [walk!(htflx_cleared), walk!(imode_cleared)];
+const CLEARED: [(&Variant, Walk); 2] = [walk!(htflx_cleared), walk!(imode_cleared)];
 
 #[test]
 fn cleared_columns_are_found_on_used_reflectrices() {
