@@ -3,7 +3,7 @@
 //! passes must find a difference.
 
 use host::demand;
-use host::entries::{FindfJob, HopModes, Reflectrix};
+use host::entries::{FindfJob, Reflectrix};
 use host::findf::Walk;
 use host::job::{self, adversarial, check_jobs, realistic, Answer, Call, Job, KINDS};
 use host::limits;
@@ -11,6 +11,7 @@ use host::oracle::{self, Variant, VARIANTS};
 use host::prng::Prng;
 use host::tally::Tally;
 use host::{fdist, findf};
+use std::cell::Cell;
 
 const JOBS: u64 = 10_000;
 
@@ -38,7 +39,7 @@ const SLIPS: [Variant; 5] = [
     oracle::lowest_row::VARIANT,
     oracle::row_set_back::VARIANT,
     oracle::next_pair_tried::VARIANT,
-    oracle::next_layer_skipped::VARIANT,
+    oracle::iskp_of_next_layer::VARIANT,
     oracle::equal_lengths_no_ray::VARIANT,
 ];
 
@@ -126,8 +127,7 @@ fn stores_one_reflectrix(job: &[u8], answer: &mut [u8]) -> u32 {
     if number == 0 {
         let stored = realistic(&mut Prng::new(33));
         let walk = |old: Reflectrix, _: &_| findf::led(old, &stored.walk);
-        let search = |old: HopModes, job: &_| fdist::led(old, job);
-        answer.copy_from_slice(&job::solved(&Job::read(job), walk, search).0.bytes());
+        answer.copy_from_slice(&job::solved(&Job::read(job), walk, fdist::led).0.bytes());
     }
     number
 }
@@ -182,7 +182,26 @@ fn writes_another_nan(job: &[u8], answer: &mut [u8]) -> u32 {
     number
 }
 
-const OTHERS: [Version; 3] = [
+thread_local! {
+    static LEFT: Cell<Reflectrix> = Cell::new(Reflectrix::zeros());
+}
+
+/// Starts not from the all-zero reflectrix but from what the job before left.
+fn starts_from_the_last_reflectrix(job: &[u8], answer: &mut [u8]) -> u32 {
+    let number = limits::job(job, answer.len());
+    if number == 0 {
+        let walk = |_: Reflectrix, job: &_| {
+            let walked = findf::led(LEFT.get(), job);
+            LEFT.set(walked.rfx);
+            walked
+        };
+        answer.copy_from_slice(&job::solved(&Job::read(job), walk, fdist::led).0.bytes());
+    }
+    number
+}
+
+const OTHERS: [Version; 4] = [
+    ("starts from the last reflectrix", starts_from_the_last_reflectrix),
     ("writes before it refuses", writes_before_it_refuses),
     ("tests ghop before amind", tests_ghop_before_amind),
     ("writes another NaN", writes_another_nan),
