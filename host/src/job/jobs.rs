@@ -85,8 +85,8 @@ fn any_height(prng: &mut Prng, _row: usize) -> f32 {
     inside(prng, limits::HPRIM)
 }
 
-/// Heights of one manner, and entries by which the walk goes through the rows of a layer, one or
-/// two to an angle, or stays on one. The layers end at angles well between 0 and 90.
+/// Heights of one manner, and entries by which the walk goes through the rows of a layer, one to
+/// an angle, or stays on one for some angles. The layers end at angles well between 0 and 90.
 fn turn_heights(prng: &mut Prng, walk: &mut FindfJob) {
     let manners: [Height; 4] = [zigzag, zigzag, flat, any_height];
     let height = prng.among(&manners);
@@ -118,8 +118,8 @@ pub fn ghop_of(length: f32) -> f32 {
     near.find(|ghop| ghop * RZ == length && limits::GHOP.contains(ghop)).unwrap_or(about)
 }
 
-/// A length about those of the rows: a row's own, some metres from it, between two neighbours, at
-/// the farthest hop; or anything within reach or within the limits.
+/// A length about those of the rows: a row's own, a metre or two from it, between two neighbours,
+/// at the nearest or the farthest hop; or anything within reach or within the limits.
 fn ghop_about(prng: &mut Prng, rfx: &Reflectrix, row: usize) -> f32 {
     let (own, next) = (rfx.gdflx[row], rfx.gdflx[row + 1]);
     let length = match prng.below(8) {
