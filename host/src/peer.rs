@@ -1,9 +1,11 @@
-//! The benchmark's peer: a job call on the Rust as it comes, as one would write it in Rust. It has
-//! no limits but the lengths, and no counts: looks and pairs are 0.
+//! The benchmark's peers: a job call on the Rust as it comes, as one would write it in Rust, with
+//! document 01's limits and without. It has no counts: looks and pairs are 0.
 
 use crate::job::{Answer, Job};
+use crate::limits;
 use crate::oracle::as_it_comes::{fdist, findf};
 use crate::oracle::{AreaTables, HopModes, IonoState, Ionogram, Numerics, Reflectrix};
+use std::ops::RangeInclusive;
 
 fn word(bytes: &[u8]) -> [u8; 4] {
     [bytes[0], bytes[1], bytes[2], bytes[3]]
@@ -60,8 +62,57 @@ impl Room<'_> {
     }
 }
 
+/// Whether all are within a range: no early end, so that the compiler takes several at a time.
+fn within<T: PartialOrd>(numbers: &[T], range: RangeInclusive<T>) -> bool {
+    numbers.iter().fold(true, |all, x| all & (*range.start() <= *x) & (*x <= *range.end()))
+}
+
+/// The first of limits 3 to 10 that is broken, else 0.
+fn broken(
+    (k, nang): (usize, usize),
+    (freq, amind, ghop): (f32, f32, f32),
+    fi: &[[f32; 3]; 5],
+    AreaTables { ion, ifob }: &AreaTables,
+) -> u32 {
+    if k > 4 {
+        3
+    } else if nang > 40 {
+        4
+    } else if !limits::FREQ.contains(&freq) {
+        5
+    } else if !limits::AMIND.contains(&amind) {
+        6
+    } else if !limits::GHOP.contains(&ghop) {
+        7
+    } else if !limits::FI_SECOND.contains(&fi[k][1]) || !limits::FI_THIRD.contains(&fi[k][2]) {
+        8
+    } else if !(within(&ion.fvert, limits::FVERT)
+        && within(&ion.hprim, limits::HPRIM)
+        && within(&ion.htrue, limits::HTRUE)
+        && within(&ion.afac, limits::AFAC))
+    {
+        9
+    } else if !within(ifob.as_flattened(), limits::IFOB) {
+        10
+    } else {
+        0
+    }
+}
+
+/// With the limits: what the library's call does, but for the counts.
 #[inline(never)]
 pub fn job(job: &[u8], answer: &mut [u8]) -> u32 {
+    solve::<true>(job, answer)
+}
+
+/// Without any limit but the lengths: the Rust's own trust in its caller.
+#[inline(never)]
+pub fn unchecked_job(job: &[u8], answer: &mut [u8]) -> u32 {
+    solve::<false>(job, answer)
+}
+
+#[inline(always)]
+fn solve<const CHECKED: bool>(job: &[u8], answer: &mut [u8]) -> u32 {
     if job.len() != Job::BYTES {
         return 1;
     }
@@ -83,6 +134,12 @@ pub fn job(job: &[u8], answer: &mut [u8]) -> u32 {
         ifob: [[0; 30]; 40],
     };
     words.ints(area.ifob.as_flattened_mut());
+    if CHECKED {
+        let number = broken((k, nang), (freq, amind, ghop), &state.fi, &area);
+        if number > 0 {
+            return number;
+        }
+    }
 
     let mut rfx = Reflectrix::default();
     findf(&mut rfx, &state, &area, k, freq, amind, nang);

@@ -93,11 +93,11 @@ fn main() {
 #[cfg(oracle)]
 const JOBS: usize = 64;
 
-/// Jobs of one kind that have so many rows, and how many they have on average.
+/// So many jobs of one kind that have so many rows, and how many they have on average.
 #[cfg(oracle)]
-fn jobs_of(kind: Kind, rows: RangeInclusive<u32>) -> (Vec<Vec<u8>>, f64) {
+fn jobs_of(kind: Kind, rows: RangeInclusive<u32>, count: usize) -> (Vec<Vec<u8>>, f64) {
     let (mut prng, mut jobs, mut sum) = (Prng::new(1), Vec::new(), 0);
-    while jobs.len() < JOBS {
+    while jobs.len() < count {
         let job = kind(&mut prng).bytes();
         let mut answer = [0; Answer::BYTES];
         assert_eq!(entries::job(&job, &mut answer), 0);
@@ -107,38 +107,50 @@ fn jobs_of(kind: Kind, rows: RangeInclusive<u32>) -> (Vec<Vec<u8>>, f64) {
             sum += found;
         }
     }
-    (jobs, f64::from(sum) / JOBS as f64)
+    (jobs, f64::from(sum) / count as f64)
 }
 
-/// The job call, bytes in and bytes out, and the Rust as it comes with such a call.
+/// The job call, bytes in and bytes out; the Rust as it comes with such a call and the same limits,
+/// and without limits.
 #[cfg(oracle)]
-fn race_jobs(jobs: &[Vec<u8>]) -> [f64; 2] {
-    let [mut ours, mut rust] = [[0; Answer::BYTES]; 2];
+fn race_jobs(jobs: &[Vec<u8>]) -> [f64; 3] {
+    let [mut ours, mut rust, mut unchecked] = [[0; Answer::BYTES]; 3];
+    let count = jobs.len();
     race([
         &mut |i| {
-            black_box(entries::job(black_box(&jobs[i % JOBS]), black_box(&mut ours)));
+            black_box(entries::job(black_box(&jobs[i % count]), black_box(&mut ours)));
         },
         &mut |i| {
-            black_box(peer::job(black_box(&jobs[i % JOBS]), black_box(&mut rust)));
+            black_box(peer::job(black_box(&jobs[i % count]), black_box(&mut rust)));
+        },
+        &mut |i| {
+            black_box(peer::unchecked_job(black_box(&jobs[i % count]), black_box(&mut unchecked)));
         },
     ])
 }
 
 #[cfg(oracle)]
+fn print_jobs(name: &str, [ours, rust, unchecked]: [f64; 3]) {
+    print(name, ours, rust);
+    print("  Rust without limits", ours, unchecked);
+}
+
+#[cfg(oracle)]
 fn jobs() {
     for (name, kind) in [("realistic", job::realistic as Kind), ("adversarial", job::adversarial)] {
-        let (jobs, rows) = jobs_of(kind, 0..=45);
-        let [ours, rust] = race_jobs(&jobs);
-        print(&format!("job, {name}"), ours, rust);
-        println!("  {rows:.1} rows on average");
+        for (again, count) in [("new", INPUTS), ("again", JOBS)] {
+            let (jobs, rows) = jobs_of(kind, 0..=45, count);
+            print_jobs(&format!("job, {name}, {again}"), race_jobs(&jobs));
+            println!("  {rows:.1} rows on average");
+        }
     }
-    let (without, _) = jobs_of(job::realistic, 0..=0);
-    let [ours, rust] = race_jobs(&without);
-    print("job without rows", ours, rust);
-    let (many, rows) = jobs_of(job::realistic, 30..=45);
-    let [ours_many, rust_many] = race_jobs(&many);
-    print("job of many rows", ours_many, rust_many);
-    print("  each row of them", (ours_many - ours) / rows, (rust_many - rust) / rows);
+    let (without, _) = jobs_of(job::realistic, 0..=0, JOBS);
+    let none = race_jobs(&without);
+    print_jobs("job without rows", none);
+    let (many, rows) = jobs_of(job::realistic, 30..=45, JOBS);
+    let found = race_jobs(&many);
+    print_jobs("job of many rows", found);
+    print("  each row of them", (found[0] - none[0]) / rows, (found[1] - none[1]) / rows);
     refused("refused by limit 1", 1, &without, |job| job.truncate(Job::BYTES - 1));
     refused("  by 3: all is decoded", 3, &without, |job| job[0] = 5);
     refused("  by 10: the last entry", 10, &without, |job| job[Job::BYTES - 1] = 0x7f);

@@ -40,22 +40,28 @@ fn jobs_about_the_limits() {
     }
 }
 
-/// The benchmark's peer does what is timed: it answers as the Rust as it comes.
+/// The benchmark's peers do what is timed: they answer as the Rust as it comes, and the one with
+/// limits refuses by them.
 #[test]
-fn the_peer_answers_as_the_rust_as_it_comes() {
+fn the_peers_answer_as_the_rust_as_it_comes() {
     let mut prng = Prng::new(40);
     for (_, kind) in KINDS {
         for _ in 0..10_000 {
             let job = kind(&mut prng);
             let bytes = job.bytes();
-            if limits::job(&bytes, Answer::BYTES) > 0 {
+            let number = limits::job(&bytes, Answer::BYTES);
+            let mut answer = [0xee; Answer::BYTES];
+            assert_eq!(peer::job(&bytes, &mut answer), number);
+            if number > 0 {
+                assert!(answer == [0xee; Answer::BYTES]);
                 continue;
             }
-            let mut answer = [0xee; Answer::BYTES];
-            assert_eq!(peer::job(&bytes, &mut answer), 0);
             let expected = solved_by(&counted_as_it_comes::VARIANT, &job);
-            let expected = Answer { looks: 0, pairs: 0, ..expected };
-            assert!(answer == expected.bytes());
+            let expected = Answer { looks: 0, pairs: 0, ..expected }.bytes();
+            assert!(answer == expected);
+            let mut answer = [0xee; Answer::BYTES];
+            assert_eq!(peer::unchecked_job(&bytes, &mut answer), 0);
+            assert!(answer == expected);
         }
     }
 }
