@@ -10,35 +10,5 @@ pub mod Arcs
 pub mod SinCosAsked
 pub mod Bound
 pub mod Width
--- The theorems: the functions are as asked, at every f32; the sign of a zero answer.
-pub mod SinCosMeets
-pub mod SinCosExamples
-pub mod ArcsineBound
-pub mod ArccosineBound
-pub mod ArctangentBound
-pub mod Zeros
--- Their laws.
-pub mod SeriesLaws
-pub mod Error
-pub mod Near
-pub mod CosNear
-pub mod Intervals
-pub mod Slopes
-pub mod Steps
-pub mod Argument
-pub mod Rounded
-pub mod SinCosBounded
-pub mod Short
-pub mod SinCosLaws
-pub mod LeastLaws
-pub mod Brackets
-pub mod GridLaws
-pub mod ArcsineLaws
-pub mod ArccosineLaws
-pub mod TangentSteps
-pub mod TangentClimbs
-pub mod ArctangentNear
-pub mod ArctangentLaws
-pub mod ArctangentGuess
-pub mod ArcsLaws
-pub mod BoundLaws
+-- These are not.
+pub mod Requires

@@ -4,7 +4,7 @@ ghost use mathlib.Core.Bool.{true, false, not};
 ghost use lib.Dec.{T};
 ghost use lib.Ieee.{isNan};
 ghost use Prim.Native.Nat.{ℕ, _^_, _≤_};
-ghost use Rattle.angles.specs.LeastLaws.{Steep};
+ghost use Rattle.angles.specs.Requires.{Steep};
 ghost use Rattle.angles.specs.Arccosine.{acosTop, acosLow, acosHigh, acosSteps, acosOf};
 use super::grid::in_steps;
 use super::guess::QUARTER;

@@ -4,7 +4,7 @@ ghost use mathlib.Core.Bool.{not};
 ghost use lib.Dec.{T};
 ghost use lib.Ieee.{isNan};
 ghost use Prim.Native.Nat.{_-_, _^_, _≤_};
-ghost use Rattle.angles.specs.LeastLaws.{Steep};
+ghost use Rattle.angles.specs.Requires.{Steep};
 ghost use Rattle.angles.specs.Arctangent.{atanTop, atanLow, atanHigh, atanSteps, atanUnits, atanOf};
 use super::grid::in_steps;
 use super::guess::QUARTER;

@@ -5,7 +5,7 @@ ghost use lib.ListN.{take};
 ghost use Rattle.angles.specs.Series.{mh, d25, sinPlusTerms, sinMinusTerms, square, cube, power, sinPlus, sinMinus, cosPlus, cosMinus};
 ghost use Rattle.angles.specs.Grid.{half};
 ghost use Rattle.angles.specs.Arcsine.{asinTop};
-ghost use Rattle.angles.specs.Short.{Close, over, shortBy};
+ghost use Rattle.angles.specs.Requires.{Close, over, shortBy};
 
 // A series at an angle, times 2^57, is plus - minus.
 pub(crate) struct Parts {

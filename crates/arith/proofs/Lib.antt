@@ -1,1 +1,3 @@
+pub mod Order
+pub mod RunLaws
 mod Magnitude

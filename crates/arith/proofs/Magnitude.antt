@@ -10,7 +10,7 @@ use lib.Ieee.{Float, nan, inf, fin, up, down, binary32, ofBits, neg, lt, eq, fit
 use lib.Ieee.Fits.{up-pos}
 use borrow.Author.Tests.{ltb-false, le-ltb, eqb-true, eq-eqb, ne-eqb}
 use Rattle.arith.specs.Floats.{f32, absOf}
-use Rattle.arith.specs.Order.{no}
+use Rattle.arith.proofs.Order.{no}
 
 pub abs-below : (x : Float) → lt x (f32 0) ≡ true → neg x ≡ absOf x
 unfolding absOf neg lt ofBits

@@ -1,4 +1,2 @@
 pub mod Floats
-pub mod Order
 pub mod Run
-pub mod RunLaws

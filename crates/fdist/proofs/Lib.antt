@@ -1,1 +1,8 @@
+pub mod PairLaws
+pub mod TurnLaws
+pub mod SlotLaws
+pub mod SearchLaws
+pub mod StraddleLaws
+pub mod DemandLaws
+pub mod FitLaws
 mod Checks

@@ -1,11 +1,5 @@
 pub mod Pairs
-pub mod PairLaws
 pub mod Rays
 pub mod Fdist
 pub mod Demand
-pub mod TurnLaws
-pub mod SlotLaws
-pub mod SearchLaws
-pub mod StraddleLaws
-pub mod DemandLaws
-pub mod FitLaws
+pub mod Requires

@@ -2,7 +2,7 @@
 ghost use mathlib.Core.Path.{_≡_};
 ghost use Prim.Native.Nat.{_<_};
 ghost use Rattle.fdist.specs.Pairs.{betweenOf, risingOf, equalOf, fallingOf, pairOf, nextOf};
-ghost use Rattle.fdist.specs.PairLaws.{Within};
+ghost use Rattle.fdist.specs.Requires.{Within};
 
 // What the rule gives of rows i and i + 1: nothing, a row as it is, or a spot between with its two distances dth and dth2.
 pub(crate) enum Pair {

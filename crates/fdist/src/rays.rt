@@ -2,7 +2,7 @@
 ghost use mathlib.Core.Path.{_≡_};
 ghost use Prim.Native.Nat.{_<_};
 ghost use Rattle.fdist.specs.Rays.{rowOf, spotOf, givenOf};
-ghost use Rattle.fdist.specs.PairLaws.{Within};
+ghost use Rattle.fdist.specs.Requires.{Within};
 use crate::pairs::Pair;
 
 // Angle, virtual height, true height, vertical frequency, absorption factor and layer.

@@ -11,8 +11,8 @@ use lib.Ieee.{Float}
 use borrow.Author.Count.{below-more}
 use borrow.Author.Tests.{leb-true}
 use Rattle.limits.specs.Limits.{entriesWithin, broken, kWithin, freqWithin, ifobWithin}
-use Rattle.limits.specs.LimitsLaws.{both, unbroken}
-use Rattle.findf.specs.Look.{Entry, Entries}
+use Rattle.limits.proofs.LimitsLaws.{both, unbroken}
+use Rattle.findf.specs.Requires.{Entries}
 use Rattle.findf.specs.Findf.{startedOf, limitsOf, admissionBy, numberOf, refusedOf, findfBy}
 use Rattle.findf.specs.declared.checks.Admission.{Admission}
 use Rattle.findf.specs.declared.checks.Admission.the-variants.{Granted, Refused}
@@ -42,21 +42,6 @@ module _ (r : Reflectrix) (nang : ℕ) (freq amind : Float) (fvert hprim htrue a
   unfolding findfBy
   walks k = rw (← e, k)
 
-entry-of : (v : ℤ) → ifobWithin v ≡ true → Entry v
-entry-of (pos n) e = leb-true n 99999 (both (leb 0 n) (leb n 99999) e .1)
-entry-of (negsuc n) e = let z : _≡_ {A = ℕ} 0 1 = cc in absurd (omega arith)
-
--- each entry that the scan has passed
-entries-to : (ifob : List ℤ) (n : ℕ) → entriesWithin ifob n ≡ true → (i : ℕ) → i < n → Entry (getD ifob i (pos 0))
-unfolding entriesWithin
-entries-to ifob zero e i h = absurd (omega arith)
-entries-to ifob (suc n) e i h =
-    let b = both (entriesWithin ifob n) (ifobWithin (getD ifob n (pos 0))) e in
-    below-more (λ (k : ℕ). Entry (getD ifob k (pos 0))) n (entries-to ifob n (b .0)) (entry-of (getD ifob n (pos 0)) (b .1)) i (omega arith)
-
-entries-of : (ifob : List ℤ) → entriesWithin ifob 1200 ≡ true → Entries ifob
-entries-of ifob e = entries-to ifob 1200 e
-
 pub below-five : (k : ℕ) → kWithin k ≡ true → k < 5
 below-five k e = omega (arith, leb-true k 4 e)
 
@@ -68,4 +53,4 @@ fit k nang freq amind point fvert hprim htrue afac ifob e =
     let angles = unbroken _ _ _ (unbroken _ _ _ e .1) in
     let frequency = unbroken _ _ _ (angles .1) in
     let tables = unbroken _ _ _ (unbroken _ _ _ (unbroken _ _ _ (frequency .1) .1) .1) in
-    (entries-of ifob (unbroken _ _ _ (tables .1) .0), (leb-true nang 40 (angles .0), frequency .0))
+    (unbroken _ _ _ (tables .1) .0, (leb-true nang 40 (angles .0), frequency .0))

@@ -11,7 +11,7 @@ use lib.Ieee.Fits.{down-pos}
 use lib.Ieee.Positive.{positive, le→cross, between, mul-mono}
 use Rattle.arith.specs.Floats.{f32, _⊗_}
 use Rattle.limits.specs.Limits.{within, freqWithin}
-use Rattle.limits.specs.LimitsLaws.{both}
+use Rattle.limits.proofs.LimitsLaws.{both}
 
 pub record Cut (x : Float) : Type 0 where
   pub above : T (lt (fin true 1 (pos 0)) x)

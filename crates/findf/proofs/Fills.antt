@@ -8,8 +8,8 @@ use lib.Ieee.{Float}
 use Rattle.arith.specs.Floats.{_⊗_, D2R}
 use native.Mathlib.Omega.{arith}
 use Rattle.findf.specs.Walk.{backOf}
-use Rattle.findf.specs.Safe.{takes, interpolates, follows}
-use Rattle.findf.specs.Ahead.{tabledOf, Angled}
+use Rattle.findf.specs.Requires.{takes, interpolates, follows}
+use Rattle.findf.specs.Requires.{tabledOf, Angled}
 use Rattle.findf.specs.Rows.{rawOf}
 use Rattle.findf.specs.declared.walk.Walk.{Walk}
 use Rattle.findf.specs.declared.walk.Label.the-variants as L

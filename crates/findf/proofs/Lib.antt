@@ -1,3 +1,9 @@
+pub mod LookLaws
+pub mod WalkLaws
+pub mod StepLaws
+pub mod RowsLaws
+pub mod FindfLaws
+pub mod FitLaws
 pub mod Entry
 pub mod Cut
 pub mod Accepted

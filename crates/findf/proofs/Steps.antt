@@ -40,14 +40,14 @@ module _ (e : Inputs) (w : Walk) (r : Reflectrix) where
       (q .raw ≡ rawOf (e .fvert) (e .hprim) (e .htrue) (e .afac) (e .ifob) (e .delpen) (r .delfx) (e .jfhz) fill w)
       × ((q .mode ≡ modeOf fill (w .il) (e .fi1)) × ((q .back ≡ backOf fill) × (q .after ≡ afterOf fill)))
 
-  row-is : (fill : F.Fill) {q : Filling} {m : Corrected} {t : Row} → Filled fill q → m ≡ correctionOf (e .freq) (e .fc2) fill (w .ia) (q .raw)
+  row-is : (fill : F.Fill) {q : Filling} {m : Corrected} {t : Row} → Filled fill q → m ≡ correctionOf (e .freq) (e .fc2) (q .raw)
       → t ≡ rowBy (q .raw) m (q .mode)
       → t ≡ rowOf (e .fvert) (e .hprim) (e .htrue) (e .afac) (e .ifob) (e .delpen) (r .delfx) (e .fi1) (e .fc2) (e .freq) (e .jfhz) fill w
   unfolding rowOf
   row-is fill q m t = rw (t, m, q .0, q .1 .0)
 
   pub fills : {fill : F.Fill} {v : Walk} {q : Filling} {m : Corrected} {t : Row} {s : Skip} {d : Float} → w .label ≡ Fill fill → Filled fill q
-      → m ≡ correctionOf (e .freq) (e .fc2) fill (w .ia) (q .raw) → t ≡ rowBy (q .raw) m (q .mode)
+      → m ≡ correctionOf (e .freq) (e .fc2) (q .raw) → t ≡ rowBy (q .raw) m (q .mode)
       → s ≡ skipOf (skipIn r) t (w .il) → d ≡ farOf (r .dmaxkm) (t .gdr) (t .del) (e .amind) → v ≡ filledOf fill w
       → turnOf e (w, r) ≡ more (v, putOf r (w .rows) t s d)
   unfolding stepBy fillOf

@@ -20,8 +20,6 @@ use Rattle.findf.specs.declared.walk.Label.the-variants.{Search, NextLay
 use Rattle.findf.specs.declared.walk.Fill as F
 use Rattle.findf.specs.declared.checks.Admission.{Admission}
 use Rattle.findf.specs.declared.checks.Admission.the-variants.{Granted, Refused}
-use Rattle.findf.specs.declared.Figures.{Figures}
-use Rattle.findf.specs.declared.Outcome.{Outcome}
 use Rattle.findf.specs.declared.Reflectrix.{Reflectrix}
 use Rattle.findf.specs.declared.Walked.{Walked}
 
@@ -186,31 +184,3 @@ findfBy r nang freq amind fvert hprim htrue afac ifob (Refused n) = refusedOf n 
 unfoldable pub findfOf : Reflectrix → ℕ → ℕ → Float → Float → List (List Float) → List Float → List Float → List Float → List Float → List ℤ → Walked
 findfOf r k nang freq amind fi fvert hprim htrue afac ifob =
     findfBy r nang freq amind fvert hprim htrue afac ifob (admissionOf k nang freq amind fi fvert hprim htrue afac ifob)
-
--- the reflectrix that seven lent columns and the figures beside them make
-abbrev pub reflectrixFrom : List Float → List Float → List Float → List Float → List Float → List Float → List ℕ → Figures → Reflectrix
-reflectrixFrom delfx hpflx htflx gdflx fvflx afflx imode f =
-    record {
-      delfx = delfx;
-      hpflx = hpflx;
-      htflx = htflx;
-      gdflx = gdflx;
-      fvflx = fvflx;
-      afflx = afflx;
-      imode = imode;
-      dskpkm = f .dskpkm;
-      delskp = f .delskp;
-      hpskp = f .hpskp;
-      htskp = f .htskp;
-      dmaxkm = f .dmaxkm;
-      fvskp = f .fvskp;
-      iskp = f .iskp;
-      delpen = f .delpen;
-      iaftxr = f .iaftxr;
-      «rows_this_call» = f .«rows_this_call»;
-    }
-
--- the answer that they make once the walk is over
-abbrev pub walkedFrom : List Float → List Float → List Float → List Float → List Float → List Float → List ℕ → Outcome → Walked
-walkedFrom delfx hpflx htflx gdflx fvflx afflx imode o =
-    record { refusal = o .refusal; looks = o .looks; rfx = reflectrixFrom delfx hpflx htflx gdflx fvflx afflx imode (o .figures) }

@@ -1,15 +1,11 @@
+-- What the functions mean: these are to be read.
 pub mod Penang
 pub mod Look
-pub mod LookLaws
 pub mod Walk
-pub mod Safe
 pub mod Rows
-pub mod Ahead
 pub mod Checks
 pub mod Findf
+pub mod Lent
 pub mod Demand
-pub mod WalkLaws
-pub mod StepLaws
-pub mod RowsLaws
-pub mod FindfLaws
-pub mod FitLaws
+-- This is not.
+pub mod Requires

@@ -1,24 +1,15 @@
 -- The looks, modes.rs lines 746 to 770. Document 01: "a look is one turn of the inner loop".
-use Prim.Native.Nat.{ℕ, suc, _+_, _-_, _≤_, _<_}
+use Prim.Native.Nat.{ℕ, suc, _+_, _-_}
 use mathlib.Core.Bool.{Bool, true, false}
 use mathlib.Core.List.{List}
 use lib.ListN.{getD}
 use lib.Dec.{leb, ltb, eqb}
-use lib.IntN.{ℤ, pos, negsuc, natAbs}
+use lib.IntN.{ℤ, pos, natAbs}
 use Rattle.arith.specs.Run.{Next, more, done, run}
 use Rattle.findf.specs.declared.look.Looked.{Looked}
 use Rattle.findf.specs.declared.walk.Label.{Label}
 use Rattle.findf.specs.declared.walk.Label.the-variants.{Search, Fill}
 use Rattle.findf.specs.declared.walk.Fill.the-variants.{Exact, Interp}
-
--- within 0 to 99999
-abbrev pub Entry : ℤ → Type 0
-Entry (pos n) = n ≤ 99999
-Entry (negsuc n) = ⊥
-
--- document 01, limit 10, of all 1,200
-abbrev pub Entries : List ℤ → Type 0
-Entries ifob = (i : ℕ) → i < 1200 → Entry (getD ifob i (pos 0))
 
 -- entry i of the flat table; within 0 to 99999 it is the entry itself
 unfoldable pub entryOf : List ℤ → ℕ → ℕ

@@ -73,9 +73,9 @@ modeOf Interp il fi1 = il
 modeOf Cusp il fi1 = il
 modeOf NextCusp360 il fi1 = nextModeOf il fi1
 
--- RZ × cos del (line 865): the same for every label and angle number
-unfoldable pub rcosdOf : Fill → ℕ → Float → Float
-rcosdOf label ia del = RZ ⊗ cosOf del
+-- RZ × cos del (line 865)
+unfoldable pub rcosdOf : Float → Float
+rcosdOf del = RZ ⊗ cosOf del
 
 -- the corrected virtual height (lines 866 to 871)
 unfoldable pub highOf : Float → Float → Float → Float → Float → Float
@@ -96,21 +96,21 @@ unfoldable pub hopOf : Float → Float → Float
 hopOf del sphe = (2·0 ⊗ RZ) ⊗ ((PIO2 ⊖ del) ⊖ asinOf sphe)
 
 -- line 864: the row's angle in radians
-abbrev pub correctionOf : Float → Float → Fill → ℕ → Raw → Corrected
-correctionOf freq fc2 fill ia a = correctedOf freq fc2 (rcosdOf fill ia (a .del ⊗ D2R)) (a .ht) (a .fv) (a .hp)
+abbrev pub correctionOf : Float → Float → Raw → Corrected
+correctionOf freq fc2 a = correctedOf freq fc2 (rcosdOf (a .del ⊗ D2R)) (a .ht) (a .fv) (a .hp)
 
 -- the row as it is written
 abbrev pub rowBy : Raw → Corrected → ℕ → Row
 rowBy a m mode =
     record { del = a .del; hp = m .hp; ht = a .ht; gdr = hopOf (a .del ⊗ D2R) (m .sphe); fv = a .fv; af = a .af; mode = mode }
 
-abbrev pub rowFrom : Float → Float → Fill → ℕ → ℕ → Raw → Row
-rowFrom freq fc2 fill ia mode a = rowBy a (correctionOf freq fc2 fill ia a) mode
+abbrev pub rowFrom : Float → Float → ℕ → Raw → Row
+rowFrom freq fc2 mode a = rowBy a (correctionOf freq fc2 a) mode
 
 -- the row of a fill, whole
 unfoldable pub rowOf : List Float → List Float → List Float → List Float → List ℤ → List Float → List Float → Float → Float → Float → ℕ → Fill → Walk → Row
 rowOf fvert hprim htrue afac ifob delpen delfx fi1 fc2 freq jfhz fill w =
-    rowFrom freq fc2 fill (w .ia) (modeOf fill (w .il) fi1) (rawOf fvert hprim htrue afac ifob delpen delfx jfhz fill w)
+    rowFrom freq fc2 (modeOf fill (w .il) fi1) (rawOf fvert hprim htrue afac ifob delpen delfx jfhz fill w)
 
 -- lines 877 to 884; il is the walk's layer: at a row after a cusp "it is the old one"
 unfoldable pub skipOf : Skip → Row → ℕ → Skip

@@ -4,8 +4,9 @@ ghost use mathlib.Core.Path.{_≡_};
 ghost use Prim.Native.Nat.{_≤_};
 ghost use mathlib.Core.Bool.{true};
 ghost use Rattle.limits.specs.Limits.{freqWithin};
-ghost use Rattle.findf.specs.Look.{Entries};
-ghost use Rattle.findf.specs.Findf.{inputsOf, jfhzOf, unlessOf, walkedOf, startedOf, findfOf, reflectrixFrom, walkedFrom};
+ghost use Rattle.findf.specs.Requires.{Entries};
+ghost use Rattle.findf.specs.Findf.{inputsOf, jfhzOf, unlessOf, walkedOf, startedOf, findfOf};
+ghost use Rattle.findf.specs.Lent.{reflectrixFrom, walkedFrom};
 
 mod checks;
 mod look;

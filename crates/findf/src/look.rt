@@ -3,7 +3,8 @@
 ghost use mathlib.Core.Path.{_≡_};
 ghost use Prim.Native.Nat.{_≤_, _<_};
 ghost use lib.IntN.{natAbs};
-ghost use Rattle.findf.specs.Look.{Entry, Entries, entryOf, looksOf};
+ghost use Rattle.findf.specs.Look.{entryOf, looksOf};
+ghost use Rattle.findf.specs.Requires.{Entry, Entries};
 use super::walk::Fill;
 use super::walk::Label;
 

@@ -2,12 +2,10 @@
 // The row that a fill writes, and the skip and farthest distances after it.
 ghost use mathlib.Core.Path.{_≡_};
 ghost use Prim.Native.Nat.{_+_, _≤_, _<_};
-ghost use Rattle.findf.specs.Look.{Entries};
 ghost use Rattle.findf.specs.Walk.{ANG, backOf, afterOf};
 ghost use Rattle.findf.specs.Rows.{gapOf, slopeOf, rawAt, rawBetween, nextModeOf, modeOf, rawOf, rcosdOf, correctedOf, hopOf, correctionOf, rowBy, skipOf, farOf};
 ghost use Rattle.arith.specs.Floats.{_⊗_, D2R};
-ghost use Rattle.findf.specs.Safe.{Safe};
-ghost use Rattle.findf.specs.Ahead.{tabledOf, Angled, Foreseen};
+ghost use Rattle.findf.specs.Requires.{Entries, Safe, tabledOf, Angled, Foreseen};
 use super::look;
 use super::walk::Fill;
 use super::walk::Label;
@@ -213,7 +211,7 @@ fn tabled(fill: Fill, ia: usize) -> usize
 // RZ times the cosine of a row's angle.
 fn rcosd(label: Fill, ia: usize, del: f32) -> f32
     requires { ⌜ Angled (tabledOf label ia) del ⌝ }
-    ensures { λ r. ⌜ r ≡ rcosdOf label ia del ⌝ }
+    ensures { λ r. ⌜ r ≡ rcosdOf del ⌝ }
 {
     RZ * angles::cos(del)
 }
@@ -221,7 +219,7 @@ fn rcosd(label: Fill, ia: usize, del: f32) -> f32
 // The same, as worked out ahead where that was of the row's angle.
 fn rcosd_of(ahead: Ahead, label: Fill, ia: usize, del: f32) -> f32
     requires { ⌜ Foreseen ahead × Angled (tabledOf label ia) del ⌝ }
-    ensures { λ r. ⌜ r ≡ rcosdOf label ia del ⌝ }
+    ensures { λ r. ⌜ r ≡ rcosdOf del ⌝ }
 {
     if tabled(label, ia) == ahead.ia {
         return ahead.rcosd;
@@ -282,7 +280,7 @@ pub(crate) fn correction_of(
     ahead: Ahead,
 ) -> Corrected
     requires { ⌜ Foreseen ahead × Angled (tabledOf fill ia) (a .del ⊗ D2R) ⌝ }
-    ensures { λ r. ⌜ r ≡ correctionOf freq fc2 fill ia a ⌝ }
+    ensures { λ r. ⌜ r ≡ correctionOf freq fc2 a ⌝ }
 {
     martyn(
         freq,

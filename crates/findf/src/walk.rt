@@ -2,9 +2,8 @@
 // The walk of findf: its labels, its state, and each step that writes no row.
 ghost use mathlib.Core.Path.{_≡_};
 ghost use Prim.Native.Nat.{_≤_};
-ghost use Rattle.findf.specs.Look.{Entries};
 ghost use Rattle.findf.specs.Walk.{ANG, withLabel, searchOf, nextLayerOf, nextCuspOf, afterOf, backOf, filledOf};
-ghost use Rattle.findf.specs.Safe.{Safe};
+ghost use Rattle.findf.specs.Requires.{Entries, Safe};
 use super::look;
 
 // The 40 take-off angles, in degrees.

@@ -1,6 +1,7 @@
 // A C entry of findf into lent columns, for the test host alone. It is a library of its own, in which findf_into is called from one place, as a product calls it.
 ghost use mathlib.Core.Path.{_≡_};
-ghost use Rattle.findf.specs.Findf.{reflectrixFrom, walkedFrom, findfOf};
+ghost use Rattle.findf.specs.Findf.{findfOf};
+ghost use Rattle.findf.specs.Lent.{reflectrixFrom, walkedFrom};
 use findf::Figures;
 use findf::Outcome;
 

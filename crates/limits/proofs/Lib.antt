@@ -1,1 +1,2 @@
+pub mod LimitsLaws
 pub mod Signs

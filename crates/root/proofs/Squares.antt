@@ -4,7 +4,7 @@ use native.Mathlib.Nat.{lt-of-le-of-lt, mul-le-mul, zero-mul}
 use native.Mathlib.Omega.{arith}
 use native.Mathlib.Decide.{decLe}
 use lib.Dec.{lit<}
-use Rattle.root.specs.NearestRootLaws.{square-next}
+use Rattle.root.proofs.NearestRootLaws.{square-next}
 
 pub square-fits : (r : ℕ) → r < 2 ^ 25 → r * r < 2 ^ 50
 square-fits r h = lt-of-le-of-lt (mul-le-mul (below h) (below h)) (lit< tt)

@@ -1,6 +1,2 @@
 pub mod Root
-pub mod Apart
-pub mod NearestRootLaws
-pub mod MidpointLaws
-pub mod ScaledLaws
-pub mod RootLaws
+pub mod Requires

@@ -4,7 +4,7 @@ ghost use mathlib.Core.Bool.{false};
 ghost use Prim.Native.Nat.{_+_, _*_, _^_, _≤_, _<_};
 ghost use lib.Ieee.{binary32, ofBits, units};
 ghost use Rattle.root.specs.Root.{nearestRoot, sqrtOf};
-ghost use Rattle.root.specs.Apart.{Apart};
+ghost use Rattle.root.specs.Requires.{Apart};
 
 // The f32 s * 2^(e - 298), with all of s's 24 digits in use.
 struct Parts {

@@ -1,2 +1,4 @@
+pub mod ListLaws
+pub mod WordsLaws
 pub mod Nan
 pub mod Signed

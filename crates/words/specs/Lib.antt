@@ -1,4 +1,2 @@
 pub mod Lists
-pub mod ListLaws
 pub mod Words
-pub mod WordsLaws

@@ -2,7 +2,7 @@ use mathlib.Core.Path.{sym, _∙_}
 use native.Mathlib.Omega.{arith}
 use borrow.Author.Needs.{needs}
 use borrow.Author.Tests.{leb-true, not-true, not-false}
-use Rattle.limits.specs.LimitsLaws.{slots-within}
+use Rattle.limits.proofs.LimitsLaws.{slots-within}
 use Rattle.allmodes.specs.AllModes.{accumulateOf}
 use Rattle.allmodes.proofs.accumulate.Statement.{statement}
 use Rattle.allmodes.proofs.accumulate.Tie as tie

@@ -7,8 +7,8 @@ use lib.Dec.{lit≤}
 use Rattle.angles.proofs.Literals.{zero-by-zero, lit-4}
 use Rattle.angles.specs.SinCos.{four32, cosOf}
 use Rattle.angles.specs.Grid.{within}
-use Rattle.angles.specs.Argument.{scaled-le, scaled-asked}
-use Rattle.angles.specs.SinCosBounded.{differ-wide, cos-differ}
+use Rattle.angles.proofs.Argument.{scaled-le, scaled-asked}
+use Rattle.angles.proofs.SinCosBounded.{differ-wide, cos-differ}
 use Rattle.angles.proofs.cos.Statement.{statement}
 use Rattle.angles.proofs.cos.Tie as tie
 

@@ -3,7 +3,7 @@ use Prim.Native.Nat.{_+_, _-_, _*_, _^_, _<_}
 use native.Mathlib.Omega.{arith}
 use borrow.Author.Needs.{needs}
 use Rattle.root.specs.Root.{nearestRoot}
-use Rattle.root.specs.NearestRootLaws.{nearest-root, nearest-unique}
+use Rattle.root.proofs.NearestRootLaws.{nearest-root, nearest-unique}
 use Rattle.root.proofs.Squares.{square-fits, root-short, step-up}
 use Rattle.root.proofs.nearest_root.Statement.{statement}
 use Rattle.root.proofs.nearest_root.Tie as tie

@@ -9,8 +9,8 @@ use lib.Dec.{lit<}
 use lib.Pow.{pow-add, pow-pos}
 use lib.Ieee.{binary32, units, ofBits}
 use Rattle.root.specs.Root.{nearestRoot, sqrtOf}
-use Rattle.root.specs.NearestRootLaws.{nearest-root, root-range}
-use Rattle.root.specs.RootLaws.{Leading, four-pow, root-of, sqrt-of-value}
+use Rattle.root.proofs.NearestRootLaws.{nearest-root, root-range}
+use Rattle.root.proofs.RootLaws.{Leading, four-pow, root-of, sqrt-of-value}
 use Rattle.root.proofs.root_of_bits.Statement.{statement}
 use Rattle.root.proofs.root_of_bits.Tie as tie
 

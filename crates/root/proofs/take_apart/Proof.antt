@@ -10,7 +10,7 @@ use lib.Dec.{lit≤}
 use lib.Pow.{pow-add, pow-mono, shl-lt}
 use lib.Ieee.{binary32, ofBits}
 use lib.Ieee.Exact.{HasValue}
-use Rattle.root.specs.Apart.{Apart}
+use Rattle.root.specs.Requires.{Apart}
 use Rattle.root.proofs.Floats.{value-times, normal-value, subnormal-value}
 use Rattle.root.proofs.take_apart.Statement.{statement}
 use Rattle.root.proofs.take_apart.Tie as tie

@@ -1,7 +1,7 @@
 use borrow.Author.Needs.{needs}
 use mathlib.Core.Path.{sym, _∙_}
 use native.Mathlib.Omega.{arith}
-use Rattle.limits.specs.LimitsLaws.{layer-within}
+use Rattle.limits.proofs.LimitsLaws.{layer-within}
 use Rattle.sigdis.specs.Prbmuf.{prbmufOf}
 use Rattle.sigdis.proofs.prbmuf.Statement.{statement}
 use Rattle.sigdis.proofs.prbmuf.Tie as tie

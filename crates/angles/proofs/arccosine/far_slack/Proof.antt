@@ -4,7 +4,7 @@ use mathlib.Core.Path.{refl}
 use mathlib.Core.Bool.{true}
 use mathlib.Core.Logic.{inl}
 use native.Mathlib.Omega.{arith}
-use Rattle.angles.specs.ArccosineLaws.{acos-steep}
+use Rattle.angles.proofs.ArccosineLaws.{acos-steep}
 use Rattle.angles.proofs.arccosine.far_slack.Statement.{statement}
 use Rattle.angles.proofs.arccosine.far_slack.Tie as tie
 

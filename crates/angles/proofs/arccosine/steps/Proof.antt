@@ -1,9 +1,9 @@
 -- `angles::arccosine::steps` meets its contract, whatever the guess. Assumes nothing.
 use borrow.Author.Needs.{needs}
 use Prim.Native.Nat.{_/_, _%_}
-use Rattle.angles.specs.Short.{exact}
+use Rattle.angles.proofs.Short.{exact}
 use Rattle.angles.specs.Arccosine.{acosLow, acosHigh, acosSteps}
-use Rattle.angles.specs.ArccosineLaws.{acos-guessed}
+use Rattle.angles.proofs.ArccosineLaws.{acos-guessed}
 use Rattle.angles.proofs.arccosine.steps.Statement.{statement}
 use Rattle.angles.proofs.arccosine.steps.Tie as tie
 

@@ -6,9 +6,9 @@ use Prim.Native.Nat.{ℕ, _≤_, _^_}
 use native.Mathlib.Nat.{le-trans}
 use lib.Dec.{lit≤}
 use Rattle.angles.specs.Grid.{one32, within}
-use Rattle.angles.specs.Argument.{within-finite, finite-number, scaled-le, scaled-asked}
+use Rattle.angles.proofs.Argument.{within-finite, finite-number, scaled-le, scaled-asked}
 use Rattle.angles.specs.Arcsine.{asinOf}
-use Rattle.angles.specs.ArcsineLaws.{asin-steps-below}
+use Rattle.angles.proofs.ArcsineLaws.{asin-steps-below}
 use Rattle.angles.proofs.Literals.{lit-0, lit-1, zero-by-zero}
 use Rattle.angles.proofs.arcsine.asin.Statement.{statement}
 use Rattle.angles.proofs.arcsine.asin.Tie as tie

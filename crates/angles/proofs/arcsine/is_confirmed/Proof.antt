@@ -3,7 +3,7 @@ use borrow.Author.Needs.{needs}
 use mathlib.Core.Path.{_≡_, sym}
 use mathlib.Core.Bool.{true, false, true≢false}
 use Rattle.angles.specs.Arcsine.{asinLow, asinHigh}
-use Rattle.angles.specs.ArcsineLaws.{asin-guessed, asin-steep, slack}
+use Rattle.angles.proofs.ArcsineLaws.{asin-guessed, asin-steep, slack}
 use Rattle.angles.proofs.arcsine.is_confirmed.Statement.{statement}
 use Rattle.angles.proofs.arcsine.is_confirmed.Tie as tie
 

@@ -1,7 +1,7 @@
 -- `angles::arcsine::steps` meets its contract, whatever the guess. Assumes nothing.
 use borrow.Author.Needs.{needs}
 use Rattle.angles.specs.Arcsine.{asinSteps}
-use Rattle.angles.specs.ArcsineLaws.{tiny}
+use Rattle.angles.proofs.ArcsineLaws.{tiny}
 use Rattle.angles.proofs.arcsine.steps.Statement.{statement}
 use Rattle.angles.proofs.arcsine.steps.Tie as tie
 

@@ -8,7 +8,7 @@ use borrow.Author.Tests.{eq-eqb}
 use lib.Dec.{T, lit≤}
 use lib.Ieee.{Float, nan, inf, fin, up, down, eq, isNan}
 use Rattle.angles.specs.Arctangent.{atanOf}
-use Rattle.angles.specs.ArctangentLaws.{steps-within, atan-nan}
+use Rattle.angles.proofs.ArctangentLaws.{steps-within, atan-nan}
 use Rattle.angles.proofs.Literals.{lit-0, zero-by-zero}
 use Rattle.angles.proofs.arctangent.atan.Statement.{statement}
 use Rattle.angles.proofs.arctangent.atan.Tie as tie

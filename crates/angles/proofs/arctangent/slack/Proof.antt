@@ -5,10 +5,10 @@ use mathlib.Core.Logic.{inl}
 use Prim.Native.Nat.{ℕ, _+_, _-_, _*_, _/_, _^_, _≤_, _<_, zero-le}
 use native.Mathlib.Omega.{arith}
 use lib.Dec.{lit≤}
-use Rattle.angles.specs.Near.{mh-under}
-use Rattle.angles.specs.LeastLaws.{Steep}
+use Rattle.angles.proofs.Near.{mh-under}
+use Rattle.angles.specs.Requires.{Steep}
 use Rattle.angles.specs.Arctangent.{atanTop, atanLow, atanHigh}
-use Rattle.angles.specs.ArctangentGuess.{slack, steep}
+use Rattle.angles.proofs.ArctangentGuess.{slack, steep}
 use Rattle.angles.proofs.arctangent.slack.Statement.{statement}
 use Rattle.angles.proofs.arctangent.slack.Tie as tie
 

@@ -1,9 +1,9 @@
 -- `angles::arctangent::steps` meets its contract, whatever the guess. Assumes nothing.
 use borrow.Author.Needs.{needs}
 use Prim.Native.Nat.{_/_, _%_}
-use Rattle.angles.specs.Short.{exact}
+use Rattle.angles.proofs.Short.{exact}
 use Rattle.angles.specs.Arctangent.{atanLow, atanHigh, atanSteps}
-use Rattle.angles.specs.ArctangentGuess.{atan-tiny, guessed-steps}
+use Rattle.angles.proofs.ArctangentGuess.{atan-tiny, guessed-steps}
 use Rattle.angles.proofs.arctangent.steps.Statement.{statement}
 use Rattle.angles.proofs.arctangent.steps.Tie as tie
 

@@ -5,7 +5,7 @@ use mathlib.Core.Bool.{true}
 use Prim.Native.Nat.{ℕ, _≤_, _^_}
 use lib.Dec.{lit≤}
 use Rattle.angles.specs.Grid.{within}
-use Rattle.angles.specs.Argument.{scaled-le, scaled-asked}
+use Rattle.angles.proofs.Argument.{scaled-le, scaled-asked}
 use Rattle.angles.specs.Arctangent.{limit, atanUnits}
 use Rattle.angles.proofs.Literals.{lit-23}
 use Rattle.angles.proofs.arctangent.units.Statement.{statement}

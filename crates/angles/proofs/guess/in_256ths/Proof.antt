@@ -2,7 +2,7 @@
 use borrow.Author.Needs.{needs}
 use lib.Ieee.{add, ofBits, toBits, binary64}
 use lib.Bits.{mask-lt}
-use Rattle.angles.specs.GridLaws.{not-nan-right}
+use Rattle.angles.proofs.GridLaws.{not-nan-right}
 use Rattle.angles.proofs.guess.in_256ths.Statement.{statement}
 use Rattle.angles.proofs.guess.in_256ths.Tie as tie
 

@@ -9,7 +9,7 @@ use lib.Bits.{bitAnd, mask-lt}
 use lib.Dec.{T, eqb, lit≤}
 use lib.Ieee.{ofBits, toBits, nanBits, binary64}
 use borrow.Author.Tests.{ne-eqb}
-use Rattle.angles.specs.GridLaws.{not-nan-right}
+use Rattle.angles.proofs.GridLaws.{not-nan-right}
 use Rattle.angles.proofs.guess.rough_root.Statement.{statement}
 use Rattle.angles.proofs.guess.rough_root.Tie as tie
 

@@ -6,7 +6,7 @@ use native.Mathlib.Omega.{arith}
 use lib.Bits.{mask-lt}
 use lib.Dec.{T}
 use lib.Ieee.{binary32, fits, toBits}
-use Rattle.angles.specs.Argument.{finite-number}
+use Rattle.angles.proofs.Argument.{finite-number}
 use Rattle.angles.proofs.Digits.{bits, digits, exponent-le, scaled-small, scaled-large, digits-fit}
 use Rattle.angles.proofs.scale.scaled_by.Statement.{statement}
 use Rattle.angles.proofs.scale.scaled_by.Tie as tie

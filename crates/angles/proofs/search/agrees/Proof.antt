@@ -7,7 +7,7 @@ use Prim.Native.Nat.{ℕ, _+_, _-_, _*_, _^_, _≤_, _<_}
 use native.Mathlib.Nat.{not-le-of-lt, le-trans, mul-le-mul, mul-add, mul-one}
 use native.Mathlib.Omega.{arith}
 use lib.Dec.{lit≤}
-use Rattle.angles.specs.Short.{Close}
+use Rattle.angles.specs.Requires.{Close}
 use Rattle.angles.proofs.search.agrees.Statement.{statement}
 use Rattle.angles.proofs.search.agrees.Tie as tie
 

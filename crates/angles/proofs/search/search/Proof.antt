@@ -3,9 +3,9 @@ use borrow.Author.Needs.{needs}
 use mathlib.Core.Path.{sym, subst, _∙_}
 use Prim.Native.Nat.{ℕ, _+_, _-_, _/_, _^_, _≤_, _<_}
 use native.Mathlib.Omega.{arith}
-use Rattle.angles.specs.LeastLaws.{Between, between-all, between-above, between-below, between-none}
+use Rattle.angles.proofs.LeastLaws.{Between, between-all, between-above, between-below, between-none}
 use Rattle.angles.specs.Arcs.{topOf, holdsOf}
-use Rattle.angles.specs.ArcsLaws.{arcs-fall, top-le}
+use Rattle.angles.proofs.ArcsLaws.{arcs-fall, top-le}
 use Rattle.angles.proofs.search.search.Statement.{statement}
 use Rattle.angles.proofs.search.search.Tie as tie
 

@@ -4,7 +4,7 @@ use mathlib.Core.Path.{sym, subst}
 use Prim.Native.Nat.{ℕ, _+_, _/_, _^_, _≤_, _<_}
 use native.Mathlib.Omega.{arith}
 use lib.Dec.{lit≤}
-use Rattle.angles.specs.Near.{mh-under}
+use Rattle.angles.proofs.Near.{mh-under}
 use Rattle.angles.specs.Arctangent.{atanLow, atanHigh}
 use Rattle.angles.proofs.search.tangent_sides.Statement.{statement}
 use Rattle.angles.proofs.search.tangent_sides.Tie as tie

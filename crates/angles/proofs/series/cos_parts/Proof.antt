@@ -3,8 +3,8 @@ use borrow.Author.Needs.{needs}
 use mathlib.Core.Path.{_≡_, sym, subst}
 use Prim.Native.Nat.{ℕ, _+_, _^_, _≤_}
 use Rattle.angles.specs.Series.{square, power, cosPlus, cosMinus}
-use Rattle.angles.specs.Near.{square-le, power-le}
-use Rattle.angles.specs.CosNear.{cos-plus-le, cos-minus-le}
+use Rattle.angles.proofs.Near.{square-le, power-le}
+use Rattle.angles.proofs.CosNear.{cos-plus-le, cos-minus-le}
 use Rattle.angles.proofs.series.cos_parts.Statement.{statement}
 use Rattle.angles.proofs.series.cos_parts.Tie as tie
 

@@ -5,7 +5,7 @@ use Prim.Native.Nat.{ℕ, _*_, _^_, _≤_}
 use native.Mathlib.Nat.{lt-of-le-of-lt}
 use lib.Dec.{lit<}
 use Rattle.angles.specs.Series.{cube, power}
-use Rattle.angles.specs.Near.{power-le, cube-le}
+use Rattle.angles.proofs.Near.{power-le, cube-le}
 use Rattle.angles.proofs.series.powers_at.Statement.{statement}
 use Rattle.angles.proofs.series.powers_at.Tie as tie
 

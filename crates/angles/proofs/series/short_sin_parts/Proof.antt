@@ -5,8 +5,9 @@ use Prim.Native.Nat.{ℕ}
 use native.Mathlib.Nat.{le-trans}
 use lib.Dec.{lit≤}
 use Rattle.angles.specs.Series.{sinPlus, sinMinus}
-use Rattle.angles.specs.Near.{sin-plus-le, sin-minus-le}
-use Rattle.angles.specs.Short.{Close, shortBy, shortPlus, shortMinus, short-plus, short-minus}
+use Rattle.angles.proofs.Near.{sin-plus-le, sin-minus-le}
+use Rattle.angles.proofs.Short.{shortPlus, shortMinus, short-plus, short-minus}
+use Rattle.angles.specs.Requires.{Close, shortBy}
 use Rattle.angles.proofs.series.short_sin_parts.Statement.{statement}
 use Rattle.angles.proofs.series.short_sin_parts.Tie as tie
 

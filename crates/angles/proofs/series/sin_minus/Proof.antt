@@ -1,6 +1,6 @@
 -- `angles::series::sin_minus` meets its contract: it computes what the definition computes, step by step. Assumes nothing.
 use borrow.Author.Needs.{needs}
-use Rattle.angles.specs.Short.{over}
+use Rattle.angles.specs.Requires.{over}
 use Rattle.angles.proofs.series.sin_minus.Statement.{statement}
 use Rattle.angles.proofs.series.sin_minus.Tie as tie
 

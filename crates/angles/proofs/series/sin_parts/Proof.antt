@@ -3,8 +3,8 @@ use borrow.Author.Needs.{needs}
 use mathlib.Core.Path.{_≡_, sym, subst}
 use Prim.Native.Nat.{ℕ, _^_, _≤_}
 use Rattle.angles.specs.Series.{fixed, sinPlus, sinMinus}
-use Rattle.angles.specs.Short.{over}
-use Rattle.angles.specs.Near.{sin-plus-le, sin-minus-le}
+use Rattle.angles.specs.Requires.{over}
+use Rattle.angles.proofs.Near.{sin-plus-le, sin-minus-le}
 use Rattle.angles.proofs.series.sin_parts.Statement.{statement}
 use Rattle.angles.proofs.series.sin_parts.Tie as tie
 

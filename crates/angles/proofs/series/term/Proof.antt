@@ -4,7 +4,7 @@ use Prim.Native.Nat.{ℕ, _+_, _^_, _≤_, _<_}
 use mathlib.Core.Path.{sym, subst}
 use native.Mathlib.Nat.{le-of-lt}
 use native.Mathlib.Omega.{arith}
-use Rattle.angles.specs.Error.{mh-le}
+use Rattle.angles.proofs.Error.{mh-le}
 use Rattle.angles.proofs.series.term.Statement.{statement}
 use Rattle.angles.proofs.series.term.Tie as tie
 

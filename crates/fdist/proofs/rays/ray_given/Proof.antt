@@ -1,6 +1,6 @@
 use mathlib.Core.Path.{subst}
 use native.Mathlib.Omega.{arith}
-use Rattle.fdist.specs.PairLaws.{Within}
+use Rattle.fdist.specs.Requires.{Within}
 use borrow.Author.Needs.{needs}
 use Rattle.fdist.proofs.rays.ray_given.Statement.{statement}
 use Rattle.fdist.proofs.rays.ray_given.Tie as tie

@@ -5,10 +5,11 @@ use Prim.Native.Nat.{suc, _-_, _≤_, _<_}
 use native.Mathlib.Omega.{arith}
 use borrow.Author.Needs.{needs}
 use borrow.Author.Tests.{le-leb, lt-leb}
-use Rattle.arith.specs.RunLaws.{Leads, leads-start, leads-more, leads-done}
-use Rattle.fdist.specs.PairLaws.{Within, pair-within, next-bounds}
+use Rattle.arith.proofs.RunLaws.{Leads, leads-start, leads-more, leads-done}
+use Rattle.fdist.proofs.PairLaws.{pair-within, next-bounds}
+use Rattle.fdist.specs.Requires.{Within}
 use Rattle.fdist.specs.Fdist.{rowsBy, noneOf, afterOf, placeBy, turnBy, turnOf, runOf}
-use Rattle.fdist.specs.TurnLaws.{turn-tries}
+use Rattle.fdist.proofs.TurnLaws.{turn-tries}
 use Rattle.fdist.proofs.search.search.Statement.{statement}
 use Rattle.fdist.proofs.search.search.Tie as tie
 

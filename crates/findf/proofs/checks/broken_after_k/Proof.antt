@@ -1,7 +1,7 @@
 use mathlib.Core.Path.{refl, sym}
 use borrow.Author.Needs.{needs}
 use Rattle.findf.specs.Findf.{limitsOf}
-use Rattle.limits.specs.LimitsLaws.{kept, kept-last}
+use Rattle.limits.proofs.LimitsLaws.{kept, kept-last}
 use Rattle.findf.proofs.checks.broken_after_k.Statement.{statement}
 use Rattle.findf.proofs.checks.broken_after_k.Tie as tie
 

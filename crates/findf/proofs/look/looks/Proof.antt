@@ -1,5 +1,5 @@
 use Prim.Native.Nat.{suc, _≤_, _+_, _-_}
-use Rattle.arith.specs.RunLaws.{Leads, leads-start, leads-more, leads-done}
+use Rattle.arith.proofs.RunLaws.{Leads, leads-start, leads-more, leads-done}
 use Rattle.findf.specs.declared.walk.Label.the-variants.{Search}
 use native.Mathlib.Omega.{arith}
 use borrow.Author.Needs.{needs}
