@@ -1,0 +1,84 @@
+use Prim.Native.Nat.{ℕ, _+_, _*_, _-_, _≤_, _<_}
+use mathlib.Core.Path.{_≡_}
+use native.Mathlib.Omega.{arith}
+use borrow.Author.Needs.{needs}
+use lib.ListN.{length, length-set}
+use Rattle.replay.proofs.record.are_integers.Statement.{statement}
+use Rattle.replay.proofs.record.are_integers.Tie as tie
+use Rattle.replay.proofs.record.are_integers.Reads as reads
+use Rattle.replay.proofs.record.are_integers.Lts as lts
+use Rattle.words.proofs.bits_of_int.Reads as bits-of-int-reads
+use Rattle.words.proofs.word.Reads as word-reads
+
+abbrev Inv-loop : tie.InvT-loop
+Inv-loop r at xs i₀ i = i ≤ length xs
+
+abbrev μ-loop : tie.MeasureT-loop
+μ-loop r at xs i₀ i = length xs - i
+
+-- src/record.rt:80:5
+loop-holds : tie.Need-loop-holds Inv-loop μ-loop
+loop-holds c = search needs
+
+-- src/record.rt:81:17
+mul-n : tie.Need-mul-n Inv-loop μ-loop
+mul-n c = search needs
+
+-- src/record.rt:81:17
+shared-slice-copy-out-n : tie.Need-shared-slice-copy-out-n Inv-loop μ-loop
+shared-slice-copy-out-n c = search needs
+
+-- src/record.rt:82:12
+bits-of-int-requires : tie.Need-bits-of-int-requires Inv-loop μ-loop
+bits-of-int-requires c κs = search needs
+
+-- src/record.rt:82:57
+mul-word : tie.Need-mul-word Inv-loop μ-loop
+mul-word c = search needs
+
+-- src/record.rt:82:52
+add-word : tie.Need-add-word Inv-loop μ-loop
+add-word c = search needs
+
+-- src/record.rt:82:37
+word-requires : tie.Need-word-requires Inv-loop μ-loop
+word-requires c κs = search needs
+
+-- src/record.rt:83:13
+returns : tie.Need-returns Inv-loop μ-loop
+returns c = search needs
+
+-- src/record.rt:85:9
+add-i : tie.Need-add-i Inv-loop μ-loop
+add-i c = search needs
+
+-- src/record.rt:80:5
+loop-less : tie.Need-loop-less Inv-loop μ-loop
+loop-less c = search needs
+
+-- src/record.rt:80:5
+loop-again : tie.Need-loop-again Inv-loop μ-loop
+loop-again c = search needs
+
+-- src/record.rt:76:1
+returns-2 : tie.Need-returns-2 Inv-loop μ-loop
+returns-2 c = search needs
+
+pub are-integers-spec : {M : Type 1} → statement M
+are-integers-spec =
+    tie.close
+    (tie.spec
+    Inv-loop
+    μ-loop
+    loop-holds
+    mul-n
+    shared-slice-copy-out-n
+    bits-of-int-requires
+    mul-word
+    add-word
+    word-requires
+    returns
+    add-i
+    loop-less
+    loop-again
+    returns-2)

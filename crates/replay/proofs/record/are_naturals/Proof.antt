@@ -1,0 +1,78 @@
+use Prim.Native.Nat.{ℕ, _+_, _*_, _-_, _≤_, _<_}
+use mathlib.Core.Path.{_≡_}
+use native.Mathlib.Omega.{arith}
+use borrow.Author.Needs.{needs}
+use lib.ListN.{length, length-set}
+use Rattle.replay.proofs.record.are_naturals.Statement.{statement}
+use Rattle.replay.proofs.record.are_naturals.Tie as tie
+use Rattle.replay.proofs.record.are_naturals.Reads as reads
+use Rattle.replay.proofs.record.are_naturals.Lts as lts
+use Rattle.words.proofs.word.Reads as word-reads
+
+abbrev Inv-loop : tie.InvT-loop
+Inv-loop r at xs i₀ i = i ≤ length xs
+
+abbrev μ-loop : tie.MeasureT-loop
+μ-loop r at xs i₀ i = length xs - i
+
+-- src/record.rt:67:5
+loop-holds : tie.Need-loop-holds Inv-loop μ-loop
+loop-holds c = search needs
+
+-- src/record.rt:68:12
+mul-if1 : tie.Need-mul-if1 Inv-loop μ-loop
+mul-if1 c = search needs
+
+-- src/record.rt:68:12
+shared-slice-read-if1 : tie.Need-shared-slice-read-if1 Inv-loop μ-loop
+shared-slice-read-if1 c = search needs
+
+-- src/record.rt:68:41
+mul-word : tie.Need-mul-word Inv-loop μ-loop
+mul-word c = search needs
+
+-- src/record.rt:68:36
+add-word : tie.Need-add-word Inv-loop μ-loop
+add-word c = search needs
+
+-- src/record.rt:68:21
+word-requires : tie.Need-word-requires Inv-loop μ-loop
+word-requires c κs = search needs
+
+-- src/record.rt:69:13
+returns : tie.Need-returns Inv-loop μ-loop
+returns c = search needs
+
+-- src/record.rt:71:9
+add-i : tie.Need-add-i Inv-loop μ-loop
+add-i c = search needs
+
+-- src/record.rt:67:5
+loop-less : tie.Need-loop-less Inv-loop μ-loop
+loop-less c = search needs
+
+-- src/record.rt:67:5
+loop-again : tie.Need-loop-again Inv-loop μ-loop
+loop-again c = search needs
+
+-- src/record.rt:63:1
+returns-2 : tie.Need-returns-2 Inv-loop μ-loop
+returns-2 c = search needs
+
+pub are-naturals-spec : {M : Type 1} → statement M
+are-naturals-spec =
+    tie.close
+    (tie.spec
+    Inv-loop
+    μ-loop
+    loop-holds
+    mul-if1
+    shared-slice-read-if1
+    mul-word
+    add-word
+    word-requires
+    returns
+    add-i
+    loop-less
+    loop-again
+    returns-2)

@@ -1,0 +1,73 @@
+// The kinds of records: the arguments of a call, then all that it must give back.
+ghost use Prim.Native.Nat.{_≤_, _<_};
+use super::chances;
+use super::jobs;
+use super::modes;
+use super::record;
+use super::searches;
+use super::walks;
+
+pub(crate) enum Kind {
+    Job,
+    Findf,
+    Fdist,
+    Sqrt,
+    Sin,
+    Cos,
+    Asin,
+    Acos,
+    Atan,
+    Fnorml,
+    Prbmuf,
+    Reset,
+    Accumulate,
+}
+
+// A record's bytes.
+pub(crate) fn size(kind: Kind) -> usize
+    ensures { λ r. ⌜ r ≤ 8192 ⌝ }
+{
+    match kind {
+        Kind::Job => 6824,
+        Kind::Findf => 8004,
+        Kind::Fdist => 1628,
+        Kind::Prbmuf => 60,
+        Kind::Reset => 3712,
+        Kind::Accumulate => 4376,
+        _ => 8,
+    }
+}
+
+// Where in a record the answer begins, which goes to its end.
+pub(crate) fn answer(kind: Kind) -> usize
+    ensures { λ r. ⌜ r ≤ 8192 ⌝ }
+{
+    match kind {
+        Kind::Job => 5360,
+        Kind::Findf => 6680,
+        Kind::Fdist => 1472,
+        Kind::Prbmuf => 52,
+        Kind::Reset => 1856,
+        Kind::Accumulate => 2516,
+        _ => 4,
+    }
+}
+
+// Whether the call gives back what the record says. It stands at the start of the array.
+pub(crate) fn agrees(kind: Kind, r: &[u8; 8192]) -> bool {
+    match kind {
+        Kind::Job => jobs::agrees(r),
+        Kind::Findf => walks::agrees(r),
+        Kind::Fdist => searches::agrees(r),
+        Kind::Sqrt => record::is_float(r, 4, root::sqrt(record::float(r, 0))),
+        Kind::Sin => record::is_float(r, 4, angles::sin(record::float(r, 0))),
+        Kind::Cos => record::is_float(r, 4, angles::cos(record::float(r, 0))),
+        Kind::Asin => record::is_float(r, 4, angles::asin(record::float(r, 0))),
+        Kind::Acos => record::is_float(r, 4, angles::acos(record::float(r, 0))),
+        Kind::Atan => record::is_float(r, 4, angles::atan(record::float(r, 0))),
+        Kind::Fnorml => record::is_float(r, 4, fnorml::fnorml(record::float(r, 0))),
+        Kind::Prbmuf => chances::agrees(r),
+        Kind::Reset => modes::reset_agrees(r),
+        Kind::Accumulate => modes::accumulate_agrees(r),
+    }
+}
