@@ -22,6 +22,8 @@ pub mod page;
 pub mod peer;
 pub mod prng;
 pub mod record;
+#[cfg(oracle)]
+pub mod replay;
 pub mod tally;
 
 // The sliced Rust reads `crate::perf`.

@@ -48,7 +48,8 @@ fn curves_and_modes() -> Tally {
 // The first record of each kind, with one word of its answer changed at a time.
 fn changed() -> Tally {
     let a = altered::first(b"jobs_realistic", Kind::Job);
-    let b = tally::plus(a, altered::first(b"findf", Kind::Findf));
+    let r = tally::plus(a, altered::first(b"jobs_limits", Kind::Job));
+    let b = tally::plus(r, altered::first(b"findf", Kind::Findf));
     let c = tally::plus(b, altered::first(b"fdist", Kind::Fdist));
     let d = tally::plus(c, altered::first(b"sqrt", Kind::Sqrt));
     let e = tally::plus(d, altered::first(b"sin", Kind::Sin));

@@ -27,8 +27,9 @@ fn sheet() -> [u8; 5361] {
     with(g, 76, one)
 }
 
-fn is_stored(number: u32, answer: [u8; 1460], stored: [u8; 1464]) -> bool {
-    (number == words::word(&stored, 0)) & check::same(&answer, &stored[4..1464])
+// Whether a call gave this number and left this answer.
+fn is_stored(number: u32, answer: [u8; 1461], stored: [u8; 1464]) -> bool {
+    (number == words::word(&stored, 0)) & check::same(&answer[0..1460], &stored[4..1464])
 }
 
 fn told(name: &[u8], number: u32, agrees: bool) -> Tally {
@@ -47,12 +48,14 @@ fn told(name: &[u8], number: u32, agrees: bool) -> Tally {
     tally::one(agrees)
 }
 
-// Runs a job and holds it against the number and the answer that are stored next.
-fn case(fd: i32, name: &[u8], job: &[u8]) -> Tally {
+// Runs a job on an answer of this length, and holds it against the number and the answer that are stored next.
+fn case(fd: i32, name: &[u8], job: &[u8], length: usize) -> Tally
+    requires { ⌜ length ≤ 1461 ⌝ }
+{
     let mut stored = [0u8; 1464];
     let read = files::next(fd, &mut stored[0..1464]);
-    let mut answer = jobs::unwritten();
-    let number = job::run(job, &mut answer);
+    let mut answer = [jobs::UNWRITTEN; 1461];
+    let number = job::run(job, &mut answer[0..length]);
     let same = is_stored(number, answer, stored);
     match read {
         Read::Whole => told(name, number, same),
@@ -63,15 +66,15 @@ fn case(fd: i32, name: &[u8], job: &[u8]) -> Tally {
 // The sheet's job with another word.
 fn changed(fd: i32, name: &[u8], at: usize, w: u32) -> Tally {
     let job = with(sheet(), at, w);
-    case(fd, name, &job[0..5360])
+    case(fd, name, &job[0..5360], 1460)
 }
 
 // As many bytes of the sheet's job, which has one to spare.
-fn cut(fd: i32, name: &[u8], length: usize) -> Tally
-    requires { ⌜ length ≤ 5361 ⌝ }
+fn cut(fd: i32, name: &[u8], length: usize, answer: usize) -> Tally
+    requires { ⌜ (length ≤ 5361) × (answer ≤ 1461) ⌝ }
 {
     let job = sheet();
-    case(fd, name, &job[0..length])
+    case(fd, name, &job[0..length], answer)
 }
 
 fn limits(fd: i32) -> Tally {
@@ -84,9 +87,11 @@ fn limits(fd: i32) -> Tally {
 }
 
 fn lengths(fd: i32) -> Tally {
-    let a = cut(fd, b"job of 5,359 bytes", 5359);
-    let b = tally::plus(a, cut(fd, b"job of 5,360 bytes", 5360));
-    tally::plus(b, cut(fd, b"job of 5,361 bytes", 5361))
+    let a = cut(fd, b"job of 5,359 bytes", 5359, 1460);
+    let b = tally::plus(a, cut(fd, b"job of 5,360 bytes", 5360, 1460));
+    let c = tally::plus(b, cut(fd, b"job of 5,361 bytes", 5361, 1460));
+    let d = tally::plus(c, cut(fd, b"answer of 1,459 bytes", 5360, 1459));
+    tally::plus(d, cut(fd, b"answer of 1,461 bytes", 5360, 1461))
 }
 
 fn root_of_4() -> Tally {

@@ -15,6 +15,8 @@ mod mutants;
 #[cfg(oracle)]
 mod prbmuf;
 #[cfg(oracle)]
+mod replay;
+#[cfg(oracle)]
 mod worked_cases;
 
 #[cfg(not(oracle))]
