@@ -1,5 +1,13 @@
 // The words of a record, least byte first. `at` counts bytes; what lies past the record's end reads as 0.
-ghost use Prim.Native.Nat.{_≤_};
+ghost use mathlib.Core.Path.{_≡_};
+ghost use Prim.Native.Nat.{ℕ, _≤_};
+ghost use lib.Dec.{eqb};
+ghost use lib.Ieee.{binary32, nan, toBits};
+ghost use lib.IntN.{pos};
+ghost use mir.Syntax.{w32};
+ghost use mir.Val.{ofZ};
+ghost use Rattle.words.specs.Words.{wordAt};
+ghost use Rattle.replay.specs.Stored.{Stand, Tells};
 
 pub(crate) fn float(r: &[u8], at: usize) -> f32 {
     words::float(words::word(r, at))
@@ -43,12 +51,15 @@ pub(crate) fn integers(r: &[u8], at: usize, out: &mut [i32])
     }
 }
 
-pub(crate) fn is_float(r: &[u8], at: usize, x: f32) -> bool {
+pub(crate) fn is_float(r: &[u8], at: usize, x: f32) -> bool
+    ensures { λ b. ⌜ b ≡ eqb (toBits binary32 x) (wordAt (now (r .entry)) at) ⌝ }
+{
     words::bits(x) == words::word(r, at)
 }
 
 pub(crate) fn are_floats(r: &[u8], at: usize, xs: &[f32]) -> bool
     requires { ⌜ at ≤ 10000 ⌝ }
+    ensures { λ b. ⌜ Tells b (Stand (toBits binary32) nan (now (xs .entry)) (now (r .entry)) at) ⌝ }
 {
     let mut i = 0usize;
     while i < xs.len() {
@@ -62,6 +73,7 @@ pub(crate) fn are_floats(r: &[u8], at: usize, xs: &[f32]) -> bool
 
 pub(crate) fn are_naturals(r: &[u8], at: usize, xs: &[u32]) -> bool
     requires { ⌜ at ≤ 10000 ⌝ }
+    ensures { λ b. ⌜ Tells b (Stand (λ (n : ℕ). n) 0 (now (xs .entry)) (now (r .entry)) at) ⌝ }
 {
     let mut i = 0usize;
     while i < xs.len() {
@@ -75,6 +87,7 @@ pub(crate) fn are_naturals(r: &[u8], at: usize, xs: &[u32]) -> bool
 
 pub(crate) fn are_integers(r: &[u8], at: usize, xs: &[i32]) -> bool
     requires { ⌜ at ≤ 10000 ⌝ }
+    ensures { λ b. ⌜ Tells b (Stand (ofZ w32) (pos 0) (now (xs .entry)) (now (r .entry)) at) ⌝ }
 {
     let mut i = 0usize;
     while i < xs.len() {

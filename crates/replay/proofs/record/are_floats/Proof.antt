@@ -1,3 +1,5 @@
+use lib.Ieee.{binary32, nan, toBits}
+use Rattle.replay.proofs.Comparing.{Passed, none, more, differ, agree}
 use Prim.Native.Nat.{ℕ, _+_, _*_, _-_, _≤_, _<_}
 use mathlib.Core.Path.{_≡_}
 use native.Mathlib.Omega.{arith}
@@ -11,58 +13,58 @@ use Rattle.words.proofs.bits.Reads as bits-reads
 use Rattle.words.proofs.word.Reads as word-reads
 
 abbrev Inv-loop : tie.InvT-loop
-Inv-loop r at xs i₀ i = i ≤ length xs
+Inv-loop r at xs i₀ i = Passed (toBits binary32) nan xs r at i
 
 abbrev μ-loop : tie.MeasureT-loop
 μ-loop r at xs i₀ i = length xs - i
 
--- src/record.rt:54:5
+-- src/record.rt:65:5
 loop-holds : tie.Need-loop-holds Inv-loop μ-loop
-loop-holds c = search needs
+loop-holds c = none (toBits binary32) nan _ _ _
 
--- src/record.rt:55:24
+-- src/record.rt:66:24
 mul-bits : tie.Need-mul-bits Inv-loop μ-loop
 mul-bits c = search needs
 
--- src/record.rt:55:24
+-- src/record.rt:66:24
 shared-slice-read-bits : tie.Need-shared-slice-read-bits Inv-loop μ-loop
 shared-slice-read-bits c = search needs
 
--- src/record.rt:55:12
+-- src/record.rt:66:12
 bits-requires : tie.Need-bits-requires Inv-loop μ-loop
 bits-requires c κs = search needs
 
--- src/record.rt:55:54
+-- src/record.rt:66:54
 mul-word : tie.Need-mul-word Inv-loop μ-loop
 mul-word c = search needs
 
--- src/record.rt:55:49
+-- src/record.rt:66:49
 add-word : tie.Need-add-word Inv-loop μ-loop
 add-word c = search needs
 
--- src/record.rt:55:34
+-- src/record.rt:66:34
 word-requires : tie.Need-word-requires Inv-loop μ-loop
 word-requires c κs = search needs
 
--- src/record.rt:56:13
+-- src/record.rt:67:13
 returns : tie.Need-returns Inv-loop μ-loop
-returns c = search needs
+returns c = differ (c .before .before .before .before .before .loop .inv) (c .before .before .before .before .loop-test .taken) (c .before .before .bits .ensures) (c .before .word .ensures) (c .if1 .taken)
 
--- src/record.rt:58:9
+-- src/record.rt:69:9
 add-i : tie.Need-add-i Inv-loop μ-loop
 add-i c = search needs
 
--- src/record.rt:54:5
+-- src/record.rt:65:5
 loop-less : tie.Need-loop-less Inv-loop μ-loop
 loop-less c = search needs
 
--- src/record.rt:54:5
+-- src/record.rt:65:5
 loop-again : tie.Need-loop-again Inv-loop μ-loop
-loop-again c = search needs
+loop-again c = more (c .before .before .before .before .before .loop .inv) (c .before .before .before .before .loop-test .taken) (c .before .before .bits .ensures) (c .before .word .ensures) (c .if1 .left)
 
--- src/record.rt:50:1
+-- src/record.rt:60:1
 returns-2 : tie.Need-returns-2 Inv-loop μ-loop
-returns-2 c = search needs
+returns-2 c = agree (c .before .loop .inv) (c .loop-test .left)
 
 pub are-floats-spec : {M : Type 1} → statement M
 are-floats-spec =

@@ -1,0 +1,16 @@
+-- What the functions that compare say: whether numbers are those of a record.
+use mathlib.Core.Path.{_≡_}
+use mathlib.Core.Bool.{Bool, true}
+use mathlib.Core.List.{List}
+use Prim.Native.Nat.{ℕ, _+_, _*_, _<_}
+use lib.ListN.{length, getD}
+use Rattle.words.specs.Words.{wordAt}
+
+-- the word of each of xs stands in the record r, one after the other from the byte `at`; d is what lies past the end of xs
+unfoldable pub Stand : {A : Type 0} → (A → ℕ) → A → List A → List ℕ → ℕ → Type 0
+Stand word d xs r at = (k : ℕ) → k < length xs → word (getD xs k d) ≡ wordAt r (at + 4 * k)
+
+-- b tells whether P holds
+pub record Tells (b : Bool) (P : Type 0) : Type 0 where
+  pub sound : b ≡ true → P
+  pub complete : P → b ≡ true
