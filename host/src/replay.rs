@@ -391,26 +391,25 @@ pub fn files() -> Vec<File> {
     files
 }
 
-/// Whose first record the program alters, one word of the answer at a time.
-const UNALTERED: [&str; 2] = ["jobs_adversarial", "named"];
-
-/// What the program must print.
+/// What the program must print: of each file how many records agree, and how many of the first one
+/// with a word of its answer altered; then the cases by name, and all together.
 pub fn stdout(files: &[File]) -> String {
-    let agree = |name: &str, agree: usize, of: usize| format!("{name}: {agree} of {of} agree\n");
+    let line = |name: &str, records: usize, altered: usize| {
+        format!("{name}: {records} of {records} agree, and 0 of {altered} altered\n")
+    };
     let mut text = String::new();
+    let mut all_altered = 0;
     for file in files.iter().filter(|file| file.name != "named") {
-        text += &agree(file.name, file.records(), file.records());
+        let altered = file.records[0].answer.0.len() / 4;
+        text += &line(file.name, file.records(), altered);
+        all_altered += altered;
     }
     for (name, job, answer) in named() {
         text += &match limits::job(&job, answer) {
-            0 => format!("{name}: accepted, as stored\n"),
-            refusal => format!("{name}: refused as {refusal}, as stored\n"),
+            0 => format!("{name}: accepted\n"),
+            refusal => format!("{name}: refused as {refusal}\n"),
         };
     }
     text += "root of 4: 2\n";
-    let altered = files.iter().filter(|file| !UNALTERED.contains(&file.name));
-    let words: usize = altered.map(|file| file.records[0].answer.0.len() / 4).sum();
-    text += &agree("altered", 0, words);
-    let total = files.iter().map(File::records).sum::<usize>() + 1;
-    text + &agree("total", total, total)
+    text + &line("total", files.iter().map(File::records).sum::<usize>() + 1, all_altered)
 }

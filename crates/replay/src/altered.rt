@@ -1,9 +1,10 @@
-// A record whose answer has one word changed must not agree. Each word of the answer is changed in its turn.
-ghost use Prim.Native.Nat.{_≤_, _<_};
+// A record whose answer has one word changed must not agree.
+ghost use Prim.Native.Nat.{_<_};
 use super::files;
+use super::files::Read;
 use super::kinds;
 use super::kinds::Kind;
-use super::tally::Read;
+use super::tally;
 use super::tally::Tally;
 
 fn other(b: u8) -> u8 {
@@ -19,51 +20,35 @@ fn agrees_changed(kind: Kind, record: [u8; 8192], at: usize) -> bool
     kinds::agrees(kind, &r)
 }
 
-fn each_word(kind: Kind, record: [u8; 8192]) -> Tally
-    ensures { λ r. ⌜ (r .agree ≤ r .records) × (r .records ≤ 1000000) ⌝ }
-{
+// A record as it is, and with each word of its answer changed in its turn.
+fn each_word(kind: Kind, record: [u8; 8192]) -> Tally {
     let end = kinds::size(kind);
     let mut at = kinds::answer(kind);
-    let mut agree = 0u64;
-    let mut records = 0u64;
+    let mut missed = 0u64;
+    let mut altered = 0u64;
     while at < end {
         if agrees_changed(kind, record, at) {
-            agree += 1;
+            missed += 1;
         }
-        records += 1;
+        altered += 1;
         at += 4;
     }
     Tally {
-        agree,
-        records,
-        end: Read::End,
+        agree: kinds::agrees(kind, &record) as u64,
+        records: 1,
+        missed,
+        altered,
+        broken: false,
     }
 }
 
-fn none() -> Tally
-    ensures { λ r. ⌜ (r .agree ≤ r .records) × (r .records ≤ 1000000) ⌝ }
-{
-    Tally {
-        agree: 0,
-        records: 0,
-        end: Read::Failed,
-    }
-}
-
-// The file's first record, with each word of its answer changed.
-pub(crate) fn first(path: &[u8], kind: Kind) -> Tally
-    ensures { λ r. ⌜ (r .agree ≤ r .records) × (r .records ≤ 1000000) ⌝ }
-{
-    let fd = os::open_read(path);
-    if fd < 0 {
-        return none();
-    }
+// The file's first record.
+pub(crate) fn first(fd: i32, kind: Kind) -> Tally {
     let mut record = [0u8; 8192];
     let n = kinds::size(kind);
-    let read = files::next(fd, &mut record[0..n]);
-    libc::close(fd);
-    match read {
+    match files::next(fd, &mut record[0..n]) {
         Read::Whole => each_word(kind, record),
-        _ => none(),
+        Read::End => tally::of_records(0, 0, false),
+        Read::Broken => tally::of_records(0, 0, true),
     }
 }

@@ -1,15 +1,21 @@
 // Files of records, read one by one to the end.
-ghost use Prim.Native.Nat.{_≤_};
 use super::kinds;
 use super::kinds::Kind;
-use super::tally::Read;
+use super::tally;
 use super::tally::Tally;
+
+// What was there to read: broken is a part of a record, or a read that failed.
+pub(crate) enum Read {
+    Whole,
+    End,
+    Broken,
+}
 
 // Reads one record, as long as the slice.
 pub(crate) fn next(fd: i32, record: &mut [u8]) -> Read {
     let got = libc::read(fd, record);
     if got < 0 {
-        return Read::Failed;
+        return Read::Broken;
     }
     let n = io::count(got, record);
     if n == 0 {
@@ -19,7 +25,7 @@ pub(crate) fn next(fd: i32, record: &mut [u8]) -> Read {
     if io::read_full(fd, &mut record[n..]) == rest {
         Read::Whole
     } else {
-        Read::Part
+        Read::Broken
     }
 }
 
@@ -27,14 +33,14 @@ pub(crate) fn next(fd: i32, record: &mut [u8]) -> Read {
 enum Turn {
     Agrees,
     Differs,
-    Over(Read),
+    End,
+    Broken,
 }
 
 fn turn_of(fd: i32, kind: Kind) -> Turn {
     let mut record = [0u8; 8192];
     let n = kinds::size(kind);
-    let read = next(fd, &mut record[0..n]);
-    match read {
+    match next(fd, &mut record[0..n]) {
         Read::Whole => {
             if kinds::agrees(kind, &record) {
                 Turn::Agrees
@@ -42,16 +48,15 @@ fn turn_of(fd: i32, kind: Kind) -> Turn {
                 Turn::Differs
             }
         }
-        _ => Turn::Over(read),
+        Read::End => Turn::End,
+        Read::Broken => Turn::Broken,
     }
 }
 
 // A proved loop has to end, and nothing says that a file does: no more records are read than these.
 const MOST: u64 = 1_000_000;
 
-fn tally_of(fd: i32, kind: Kind) -> Tally
-    ensures { λ r. ⌜ (r .agree ≤ r .records) × (r .records ≤ 1000000) ⌝ }
-{
+pub(crate) fn tally_of(fd: i32, kind: Kind) -> Tally {
     let mut agree = 0u64;
     let mut records = 0u64;
     while records < MOST {
@@ -63,35 +68,13 @@ fn tally_of(fd: i32, kind: Kind) -> Tally
             Turn::Differs => {
                 records += 1;
             }
-            Turn::Over(end) => {
-                return Tally {
-                    agree,
-                    records,
-                    end,
-                };
+            Turn::End => {
+                return tally::of_records(agree, records, false);
+            }
+            Turn::Broken => {
+                return tally::of_records(agree, records, true);
             }
         }
     }
-    Tally {
-        agree,
-        records,
-        end: Read::Whole,
-    }
-}
-
-// The records of a file. One that cannot be opened has none, and its reading failed.
-pub(crate) fn replayed(path: &[u8], kind: Kind) -> Tally
-    ensures { λ r. ⌜ (r .agree ≤ r .records) × (r .records ≤ 1000000) ⌝ }
-{
-    let fd = os::open_read(path);
-    if fd < 0 {
-        return Tally {
-            agree: 0,
-            records: 0,
-            end: Read::Failed,
-        };
-    }
-    let t = tally_of(fd, kind);
-    libc::close(fd);
-    t
+    tally::of_records(agree, records, true)
 }

@@ -53,21 +53,28 @@ pub(crate) fn answer(kind: Kind) -> usize
     }
 }
 
+// The functions of one number.
+fn value(kind: Kind, x: f32) -> f32 {
+    match kind {
+        Kind::Sqrt => root::sqrt(x),
+        Kind::Sin => angles::sin(x),
+        Kind::Cos => angles::cos(x),
+        Kind::Asin => angles::asin(x),
+        Kind::Acos => angles::acos(x),
+        Kind::Atan => angles::atan(x),
+        _ => fnorml::fnorml(x),
+    }
+}
+
 // Whether the call gives back what the record says. It stands at the start of the array.
 pub(crate) fn agrees(kind: Kind, r: &[u8; 8192]) -> bool {
     match kind {
         Kind::Job => jobs::agrees(r),
         Kind::Findf => walks::agrees(r),
         Kind::Fdist => searches::agrees(r),
-        Kind::Sqrt => record::is_float(r, 4, root::sqrt(record::float(r, 0))),
-        Kind::Sin => record::is_float(r, 4, angles::sin(record::float(r, 0))),
-        Kind::Cos => record::is_float(r, 4, angles::cos(record::float(r, 0))),
-        Kind::Asin => record::is_float(r, 4, angles::asin(record::float(r, 0))),
-        Kind::Acos => record::is_float(r, 4, angles::acos(record::float(r, 0))),
-        Kind::Atan => record::is_float(r, 4, angles::atan(record::float(r, 0))),
-        Kind::Fnorml => record::is_float(r, 4, fnorml::fnorml(record::float(r, 0))),
         Kind::Prbmuf => chances::agrees(r),
         Kind::Reset => modes::reset_agrees(r),
         Kind::Accumulate => modes::accumulate_agrees(r),
+        _ => record::is_float(r, 4, value(kind, record::float(r, 0))),
     }
 }

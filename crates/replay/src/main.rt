@@ -15,62 +15,44 @@ mod walks;
 use kinds::Kind;
 use tally::Tally;
 
-fn file(path: &[u8], kind: Kind) -> Tally {
-    let t = files::replayed(path, kind);
-    say::line(path, t);
-    t
+// A file's first record, as it is and altered, then the others. One that cannot be opened cannot be read.
+fn file(t: Tally, path: &[u8], kind: Kind) -> Tally {
+    let fd = os::open_read(path);
+    let one = altered::first(fd, kind);
+    let here = tally::plus(one, files::tally_of(fd, kind));
+    libc::close(fd);
+    say::line(path, here);
+    tally::plus(t, here)
 }
 
-fn routines() -> Tally {
-    let a = file(b"jobs_realistic", Kind::Job);
-    let b = tally::plus(a, file(b"jobs_adversarial", Kind::Job));
-    let c = tally::plus(b, file(b"jobs_limits", Kind::Job));
-    let d = tally::plus(c, file(b"findf", Kind::Findf));
-    tally::plus(d, file(b"fdist", Kind::Fdist))
+fn routines(t: Tally) -> Tally {
+    let a = file(t, b"jobs_realistic", Kind::Job);
+    let b = file(a, b"jobs_adversarial", Kind::Job);
+    let c = file(b, b"jobs_limits", Kind::Job);
+    let d = file(c, b"findf", Kind::Findf);
+    file(d, b"fdist", Kind::Fdist)
 }
 
-fn functions() -> Tally {
-    let a = file(b"sqrt", Kind::Sqrt);
-    let b = tally::plus(a, file(b"sin", Kind::Sin));
-    let c = tally::plus(b, file(b"cos", Kind::Cos));
-    let d = tally::plus(c, file(b"asin", Kind::Asin));
-    let e = tally::plus(d, file(b"acos", Kind::Acos));
-    tally::plus(e, file(b"atan", Kind::Atan))
+fn functions(t: Tally) -> Tally {
+    let a = file(t, b"sqrt", Kind::Sqrt);
+    let b = file(a, b"sin", Kind::Sin);
+    let c = file(b, b"cos", Kind::Cos);
+    let d = file(c, b"asin", Kind::Asin);
+    let e = file(d, b"acos", Kind::Acos);
+    file(e, b"atan", Kind::Atan)
 }
 
-fn curves_and_modes() -> Tally {
-    let a = file(b"fnorml", Kind::Fnorml);
-    let b = tally::plus(a, file(b"prbmuf", Kind::Prbmuf));
-    let c = tally::plus(b, file(b"reset", Kind::Reset));
-    tally::plus(c, file(b"accumulate", Kind::Accumulate))
-}
-
-// The first record of each kind, with one word of its answer changed at a time.
-fn changed() -> Tally {
-    let a = altered::first(b"jobs_realistic", Kind::Job);
-    let r = tally::plus(a, altered::first(b"jobs_limits", Kind::Job));
-    let b = tally::plus(r, altered::first(b"findf", Kind::Findf));
-    let c = tally::plus(b, altered::first(b"fdist", Kind::Fdist));
-    let d = tally::plus(c, altered::first(b"sqrt", Kind::Sqrt));
-    let e = tally::plus(d, altered::first(b"sin", Kind::Sin));
-    let f = tally::plus(e, altered::first(b"cos", Kind::Cos));
-    tally::plus(f, altered::first(b"asin", Kind::Asin))
-}
-
-fn changed_too() -> Tally {
-    let a = altered::first(b"acos", Kind::Acos);
-    let b = tally::plus(a, altered::first(b"atan", Kind::Atan));
-    let c = tally::plus(b, altered::first(b"fnorml", Kind::Fnorml));
-    let d = tally::plus(c, altered::first(b"prbmuf", Kind::Prbmuf));
-    let e = tally::plus(d, altered::first(b"reset", Kind::Reset));
-    tally::plus(e, altered::first(b"accumulate", Kind::Accumulate))
+fn curves_and_modes(t: Tally) -> Tally {
+    let a = file(t, b"fnorml", Kind::Fnorml);
+    let b = file(a, b"prbmuf", Kind::Prbmuf);
+    let c = file(b, b"reset", Kind::Reset);
+    file(c, b"accumulate", Kind::Accumulate)
 }
 
 fn main() {
-    let a = routines();
-    let b = tally::plus(a, functions());
-    let c = tally::plus(b, curves_and_modes());
-    let all = tally::plus(c, named::cases(b"named"));
-    say::line(b"altered", tally::plus(changed(), changed_too()));
-    say::line(b"total", all);
+    let a = routines(tally::of_records(0, 0, false));
+    let b = functions(a);
+    let c = curves_and_modes(b);
+    let d = named::cases(c, b"named");
+    say::line(b"total", d);
 }

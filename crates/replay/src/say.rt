@@ -1,5 +1,4 @@
 // What is printed.
-use super::tally::Read;
 use super::tally::Tally;
 use libc::STDOUT_FILENO;
 
@@ -11,19 +10,20 @@ pub(crate) fn number(n: u64) {
     io::print_decimal(STDOUT_FILENO, n);
 }
 
-// `NAME: A of N agree`, and in what manner the reading ended if not where a record does.
+fn part(before: &[u8], n: u64, of: u64, after: &[u8]) {
+    text(before);
+    number(n);
+    text(b" of ");
+    number(of);
+    text(after);
+}
+
 pub(crate) fn line(name: &[u8], t: Tally) {
     text(name);
-    text(b": ");
-    number(t.agree);
-    text(b" of ");
-    number(t.records);
-    text(b" agree");
-    let end = t.end;
-    match end {
-        Read::End => text(b"\n"),
-        Read::Part => text(b", then there is a part of a record\n"),
-        Read::Failed => text(b", the rest cannot be read\n"),
-        Read::Whole => text(b", there are more\n"),
+    part(b": ", t.agree, t.records, b" agree");
+    part(b", and ", t.missed, t.altered, b" altered");
+    if t.broken {
+        text(b", the rest cannot be read");
     }
+    text(b"\n");
 }

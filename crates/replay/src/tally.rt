@@ -1,42 +1,31 @@
-// How many records agree, of how many.
+// How many records agree.
 
-// What was there to read.
-pub(crate) enum Read {
-    Whole,
-    Part,
-    End,
-    Failed,
-}
-
-// The end is what was there after the last whole record.
+// Records that agree, of how many; altered ones that agree all the same, of how many; whether a file could not be read to its end.
 pub(crate) struct Tally {
     pub(crate) agree: u64,
     pub(crate) records: u64,
-    pub(crate) end: Read,
+    pub(crate) missed: u64,
+    pub(crate) altered: u64,
+    pub(crate) broken: bool,
 }
 
-pub(crate) fn one(agrees: bool) -> Tally {
+pub(crate) fn of_records(agree: u64, records: u64, broken: bool) -> Tally {
     Tally {
-        agree: agrees as u64,
-        records: 1,
-        end: Read::End,
+        agree,
+        records,
+        missed: 0,
+        altered: 0,
+        broken,
     }
 }
 
-// Both together; no sum wraps, since no file counts more than a million. An end that is no file's end stays.
+// Both together. No sum wraps, since no file counts more than a million.
 pub(crate) fn plus(a: Tally, b: Tally) -> Tally {
-    let end = a.end;
-    let other = b.end;
     Tally {
         agree: std::num::wrapping_add_u64(a.agree, b.agree),
         records: std::num::wrapping_add_u64(a.records, b.records),
-        end: worse(end, other),
-    }
-}
-
-fn worse(a: Read, b: Read) -> Read {
-    match a {
-        Read::End => b,
-        _ => a,
+        missed: std::num::wrapping_add_u64(a.missed, b.missed),
+        altered: std::num::wrapping_add_u64(a.altered, b.altered),
+        broken: a.broken | b.broken,
     }
 }

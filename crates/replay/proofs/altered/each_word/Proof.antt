@@ -1,22 +1,21 @@
 use mathlib.Core.Logic.{⊎-elim}
-use Prim.Native.Nat.{ℕ, _+_, _*_, _-_, _≤_, _<_}
-use mathlib.Core.Path.{_≡_}
+use Prim.Native.Nat.{_-_, _≤_}
 use native.Mathlib.Omega.{arith}
 use borrow.Author.Needs.{needs}
-use lib.ListN.{length, length-set}
 use Rattle.replay.proofs.altered.each_word.Statement.{statement}
 use Rattle.replay.proofs.altered.each_word.Tie as tie
 use Rattle.replay.proofs.altered.each_word.Reads as reads
 use Rattle.replay.proofs.altered.each_word.Lts as lts
 use Rattle.replay.proofs.altered.agrees_changed.Reads as agrees-changed-reads
+use Rattle.replay.proofs.kinds.agrees.Reads as agrees-reads
 use Rattle.replay.proofs.kinds.answer.Reads as answer-reads
 use Rattle.replay.proofs.kinds.size.Reads as size-reads
 
 abbrev Inv-loop : tie.InvT-loop
-Inv-loop kind «record» end at₀ agree₀ records₀ at agree records = (agree ≤ records) × ((records ≤ at) × ((at ≤ 8196) × (end ≤ 8192)))
+Inv-loop kind «record» end at₀ missed₀ altered₀ at missed altered = (missed ≤ altered) × ((altered ≤ at) × ((at ≤ 8196) × (end ≤ 8192)))
 
 abbrev μ-loop : tie.MeasureT-loop
-μ-loop kind «record» end at₀ agree₀ records₀ at agree records = end - at
+μ-loop kind «record» end at₀ missed₀ altered₀ at missed altered = end - at
 
 -- src/altered.rt:25:9
 size-requires : tie.Need-size-requires Inv-loop μ-loop
@@ -35,12 +34,12 @@ agrees-changed-requires : tie.Need-agrees-changed-requires Inv-loop μ-loop
 agrees-changed-requires c κs = search needs
 
 -- src/altered.rt:31:13
-add-agree : tie.Need-add-agree Inv-loop μ-loop
-add-agree c = search needs
+add-missed : tie.Need-add-missed Inv-loop μ-loop
+add-missed c = search needs
 
 -- src/altered.rt:33:9
-add-records : tie.Need-add-records Inv-loop μ-loop
-add-records c = search needs
+add-altered : tie.Need-add-altered Inv-loop μ-loop
+add-altered c = search needs
 
 -- src/altered.rt:34:9
 add-at : tie.Need-add-at Inv-loop μ-loop
@@ -54,7 +53,15 @@ loop-less c = search needs
 loop-again : tie.Need-loop-again Inv-loop μ-loop
 loop-again c = ⊎-elim (λ w. omega arith) (λ w. omega arith) (c .if1 .came)
 
--- src/altered.rt:22:1
+-- src/altered.rt:37:16
+agrees-requires : tie.Need-agrees-requires Inv-loop μ-loop
+agrees-requires c κs = search needs
+
+-- src/altered.rt:37:16
+cast-t13 : tie.Need-cast-t13 Inv-loop μ-loop
+cast-t13 c = search needs
+
+-- src/altered.rt:24:1
 returns : tie.Need-returns Inv-loop μ-loop
 returns c = search needs
 
@@ -68,9 +75,11 @@ each-word-spec =
     answer-requires
     loop-holds
     agrees-changed-requires
-    add-agree
-    add-records
+    add-missed
+    add-altered
     add-at
     loop-less
     loop-again
+    agrees-requires
+    cast-t13
     returns)

@@ -1,10 +1,8 @@
 use lib.Ieee.{binary32, nan, toBits}
 use Rattle.replay.proofs.Comparing.{Passed, none, more, differ, agree}
-use Prim.Native.Nat.{ℕ, _+_, _*_, _-_, _≤_, _<_}
-use mathlib.Core.Path.{_≡_}
-use native.Mathlib.Omega.{arith}
+use Prim.Native.Nat.{_-_}
 use borrow.Author.Needs.{needs}
-use lib.ListN.{length, length-set}
+use lib.ListN.{length}
 use Rattle.replay.proofs.record.are_floats.Statement.{statement}
 use Rattle.replay.proofs.record.are_floats.Tie as tie
 use Rattle.replay.proofs.record.are_floats.Reads as reads

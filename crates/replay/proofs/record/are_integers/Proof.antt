@@ -3,11 +3,10 @@ use lib.IntN.{pos}
 use mir.Syntax.{w32}
 use mir.Val.{ofZ}
 use Rattle.replay.proofs.Comparing.{Passed, none, more, differ, agree}
-use Prim.Native.Nat.{ℕ, _+_, _*_, _-_, _≤_, _<_}
+use Prim.Native.Nat.{_-_}
 use mathlib.Core.Path.{_≡_, _∙_, ap}
-use native.Mathlib.Omega.{arith}
 use borrow.Author.Needs.{needs}
-use lib.ListN.{length, length-set, getD}
+use lib.ListN.{length, getD}
 use Rattle.replay.proofs.record.are_integers.Statement.{statement}
 use Rattle.replay.proofs.record.are_integers.Tie as tie
 use Rattle.replay.proofs.record.are_integers.Reads as reads

@@ -1,9 +1,8 @@
 use Rattle.replay.proofs.Comparing.{Passed, none, more, differ, agree}
-use Prim.Native.Nat.{ℕ, _+_, _*_, _-_, _≤_, _<_}
-use mathlib.Core.Path.{_≡_, refl}
-use native.Mathlib.Omega.{arith}
+use Prim.Native.Nat.{ℕ, _-_}
+use mathlib.Core.Path.{refl}
 use borrow.Author.Needs.{needs}
-use lib.ListN.{length, length-set}
+use lib.ListN.{length}
 use Rattle.replay.proofs.record.are_naturals.Statement.{statement}
 use Rattle.replay.proofs.record.are_naturals.Tie as tie
 use Rattle.replay.proofs.record.are_naturals.Reads as reads
