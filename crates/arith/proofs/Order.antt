@@ -242,3 +242,25 @@ le-trans (fin s m e) (fin t k c) (fin u n d) p q =
     of-under s u (m * up e * down d) (n * up d * down e)
     (under-trans s t u (m * up e) (k * up c) (n * up d) (down e) (down c) (down d) (down-pos e) (down-pos c) (down-pos d)
     (under-of s t (m * up e * down c) (k * up c * down e) p) (under-of t u (k * up c * down d) (n * up d * down c) q))
+
+-- of two numbers, x < y or y ≤ x
+over : (s t : Bool) (a b : ℕ) → below s a t b ≡ false → Under t b s a
+over false false a b e = ltb-false a b e
+over false true a b e = tt
+over true false a b e = let k : a + b ≤ 0 = ltb-false 0 (a + b) e in (omega arith, omega arith)
+over true true a b e = ltb-false b a e
+
+pub not-lt-le : (x y : Float) → le x x ≡ true → le y y ≡ true → lt x y ≡ false → le y x ≡ true
+unfolding le lt eq
+not-lt-le nan y p q e = no p
+not-lt-le (inf s) nan p q e = no q
+not-lt-le (fin s m d) nan p q e = no q
+not-lt-le (inf true) (inf true) p q e = refl
+not-lt-le (inf true) (inf false) p q e = no (sym e)
+not-lt-le (inf true) (fin t k c) p q e = no (sym e)
+not-lt-le (inf false) (inf true) p q e = refl
+not-lt-le (inf false) (inf false) p q e = refl
+not-lt-le (inf false) (fin t k c) p q e = refl
+not-lt-le (fin s m d) (inf true) p q e = refl
+not-lt-le (fin s m d) (inf false) p q e = no (sym e)
+not-lt-le (fin s m d) (fin t k c) p q e = of-under t s (k * up c * down d) (m * up d * down c) (over s t (m * up d * down c) (k * up c * down d) e)

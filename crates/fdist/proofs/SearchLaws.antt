@@ -9,8 +9,8 @@ use lib.Ieee.{Float, neg}
 use borrow.Author.Tests.{le-leb, lt-leb}
 use Rattle.arith.specs.Floats.{absOf}
 use Rattle.arith.proofs.Order.{no, neg-abs-not-above}
-use Rattle.arith.specs.Run.{Next, done, count}
-use Rattle.arith.proofs.RunLaws.{Kept, run-keeps, Raised, run-counts}
+use Rattle.arith.specs.Run.{Next, done, run, count}
+use Rattle.arith.proofs.RunLaws.{Kept, run-same, run-keeps, Raised, run-counts}
 use Rattle.fdist.specs.declared.Searched.{Searched}
 use Rattle.fdist.specs.Fdist.{Rows, Search, start, noneOf, low, turnOf, turns, runOf}
 use Rattle.fdist.specs.Demand.{rayOf, reaches, triesOf, acceptsOf}
@@ -69,6 +69,11 @@ module _ (t : Rows) (d amind freq : Float) where
   run-counted c u v z raise =
       let e = run-counts (turnOf t d amind freq) (λ _. Unit {0}) left (turn-falls t d amind freq) (λ s. omega arith) c u v raise noneOf turns start tt (omega arith) in
       omega arith
+
+  -- more turns than 45, or another answer for want of them, would change nothing
+  pub search-same : (d′ : Searched) (n : ℕ) → turns ≤ n → run (turnOf t d amind freq) d′ n start ≡ runOf t d amind freq
+  unfolding runOf
+  search-same d′ n h = run-same (turnOf t d amind freq) (λ _. Unit {0}) left (turn-falls t d amind freq) (λ s. omega arith) d′ noneOf n turns start tt h (omega arith)
 
   -- at most 44 pairs: one at each row that is passed; at most six rays
   record Few (s : Search) : Type 0 where

@@ -21,7 +21,7 @@ use Rattle.findf.specs.Walk.{start}
 use Rattle.findf.specs.Findf.{Inputs, State, inputsOf, jfhzOf, stepOf, turnOf, walkOf, walkedOf, begun, startedOf, limitsOf, admissionBy, admissionOf, findfBy, findfOf}
 use Rattle.findf.specs.Demand as demand
 use Rattle.findf.specs.Demand.{lookTurns, rowsDue, rowAt, RowIs}
-use Rattle.findf.proofs.StepLaws.{rows-iterate, walk-iterate, walk-resumes, walk-few, fill-few, walk-looks, walk-rows}
+use Rattle.findf.proofs.StepLaws.{rows-iterate, looks-iterate, walk-iterate, walk-resumes, walk-few, fill-few, walk-looks, walk-rows}
 use Rattle.findf.proofs.RowsLaws.{Sized, sized-throughout, begun-sized, filled-stays, Beyond, beyond-zero, begun-beyond}
 use Rattle.findf.specs.declared.penang.Penetration.{Penetration}
 use Rattle.findf.specs.declared.walk.Label.the-variants.{Fill}
@@ -53,6 +53,10 @@ module _ (r : Reflectrix) (k nang : ℕ) (freq amind : Float) (fi : List (List F
   pub row-number : (n : ℕ) → stateAt n .0 .rows ≡ count (turnOf read) rowsDue n (start, first)
   row-number n = rows-iterate read n (start, first) ∙ zero-add _
 
+  -- and its `looks` that of the looks in them
+  pub look-number : (n : ℕ) → stateAt n .0 .looks ≡ count (turnOf read) (lookTurns read) n (start, first)
+  look-number n = looks-iterate read n (start, first) ∙ zero-add _
+
   module _ (ok : Accepted) where
     nang-cap : nang ≤ 40
     unfolding limitsOf
@@ -63,7 +67,8 @@ module _ (r : Reflectrix) (k nang : ℕ) (freq amind : Float) (fi : List (List F
     unfolding findfOf findfBy admissionOf admissionBy startedOf
     findf-walks = rw ok
 
-    rows-counted : walkOf read first .1 .«rows_this_call» ≡ walkOf read first .0 .rows
+    -- the reflectrix counts its rows as the walk does
+    pub rows-counted : walkOf read first .1 .«rows_this_call» ≡ walkOf read first .0 .rows
     rows-counted =
         subst (λ (s : State). s .1 .«rows_this_call» ≡ s .0 .rows) (sym (walk-iterate read nang-cap first 430 (omega arith)))
         (beyond-zero read first (begun-beyond r p) 430 .counted)

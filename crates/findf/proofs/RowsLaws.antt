@@ -3,12 +3,14 @@
 -- columns of 45 rows stay so; `begun-sized`: findf starts with them. `written-stays`: a row once written stays; `filled-stays`: and so does a fill's row.
 -- `unwritten-keeps`: a row that is not written keeps its old contents. `beyond-zero`: from the start on, heights, angles and
 -- lengths beyond the rows written are +0, and `rows_this_call` is the number of rows. `dmaxkm-never-falls`: no step lowers dmaxkm, and
--- it never is NaN.
+-- it never is NaN. `rows-have-fills`: each row that is written has the fill that wrote it. `delpen-stays`: no step writes the penetration angles.
 use mathlib.Core.Path.{_≡_, refl, sym, ap, subst, _∙_}
 use mathlib.Core.Bool.{Bool, true, false, cond}
 use mathlib.Core.Logic.{_≢_}
-use Prim.Native.Nat.{ℕ, suc, _+_, _≤_, _<_}
+use Prim.Native.Nat.{ℕ, zero, suc, _+_, _≤_, _<_}
 use native.Mathlib.Omega.{arith}
+use lib.Dec.{leb}
+use borrow.Author.Tests.{leb-true, leb-false}
 use lib.ListN.{getD, length, length-set, length-replicate, getD-replicate}
 use lib.Seq.{getD-set-same, getD-set-other}
 use lib.Ieee.{Float, nan, ofBits, neg, lt, le, eq}
@@ -323,3 +325,44 @@ begun-number-by false = refl
 
 pub begun-number : (r : Reflectrix) (p : Penetration) → IsNumber (begun r p .dmaxkm)
 begun-number r p = begun-number-by (p .dead)
+
+-- the fill that writes row j, and after how many steps
+pub record FilledBy (e : Inputs) (s : State) (j : ℕ) : Type 0 where
+  pub after : ℕ
+  pub fill : F.Fill
+  pub label-is : iterate after (stepOf e) s .0 .label ≡ Fill fill
+  pub row-is : iterate after (stepOf e) s .0 .rows ≡ j
+
+module _ (e : Inputs) where
+  later : (s : State) (j : ℕ) → FilledBy e (stepOf e s) j → FilledBy e s j
+  unfolding iterate
+  later s j f = record { after = suc (f .after); fill = f .fill; label-is = f .label-is; row-is = f .row-is }
+
+  fills-by : (l : Label) (s : State) (j : ℕ) (b : Bool) → s .0 .label ≡ l → leb (suc (s .0 .rows)) j ≡ b → s .0 .rows ≤ j → (stepOf e s .0 .rows ≤ j → FilledBy e s j) → FilledBy e s j
+  unfolding stepOf iterate
+  fills-by (Fill fill) s j true q t h k = k (omega (arith, step-rows e (s .0 .label) (s .0) (s .1), ap due q, leb-true (suc (s .0 .rows)) j t))
+  fills-by (Fill fill) s j false q t h k = record { after = 0; fill = fill; label-is = q; row-is = omega (arith, leb-false (suc (s .0 .rows)) j t) }
+  fills-by Search s j b q t h k = k (omega (arith, step-rows e (s .0 .label) (s .0) (s .1), ap due q))
+  fills-by NextLayer s j b q t h k = k (omega (arith, step-rows e (s .0 .label) (s .0) (s .1), ap due q))
+  fills-by NextCusp s j b q t h k = k (omega (arith, step-rows e (s .0 .label) (s .0) (s .1), ap due q))
+  fills-by Done s j b q t h k = k (omega (arith, step-rows e (s .0 .label) (s .0) (s .1), ap due q))
+
+  -- each row that n steps write has its fill
+  pub rows-have-fills : (n : ℕ) (s : State) (j : ℕ) → s .0 .rows ≤ j → j < iterate n (stepOf e) s .0 .rows → FilledBy e s j
+  unfolding iterate
+  rows-have-fills zero s j h k = absurd (omega arith)
+  rows-have-fills (suc n) s j h k = fills-by (s .0 .label) s j (leb (suc (s .0 .rows)) j) refl refl h (λ m. later s j (rows-have-fills n (stepOf e s) j m k))
+
+  delpen-by : (l : Label) (w : Walk) (r : Reflectrix) → stepBy e l w r .1 .delpen ≡ r .delpen
+  unfolding stepBy fillOf
+  delpen-by Search w r = refl
+  delpen-by NextLayer w r = refl
+  delpen-by (Fill fill) w r = refl
+  delpen-by NextCusp w r = refl
+  delpen-by Done w r = refl
+
+  -- no step writes the penetration angles
+  pub delpen-stays : (n : ℕ) (s : State) → iterate n (stepOf e) s .1 .delpen ≡ s .1 .delpen
+  unfolding stepOf
+  delpen-stays n s =
+      iterate-keeps (stepOf e) (λ (t : State). t .1 .delpen ≡ s .1 .delpen) (λ t q. delpen-by (t .0 .label) (t .0) (t .1) ∙ q) n s refl

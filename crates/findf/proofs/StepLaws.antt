@@ -3,7 +3,7 @@
 -- iterated, so `stepOf` alone is the meaning; `iterate-add` (arith) says that m + n steps are n steps after m, and `walk-resumes` that the walk
 -- may be cut anywhere. `walk-done`: it ends at Done. `stop-never`: the stop at 45 rows is never taken.
 -- `walk-looks`, `walk-rows`: looks are the turns of the inner loop, and rows the steps that write one.
--- `rows-iterate`: n steps add the steps among them that write one, whatever nang is.
+-- `rows-iterate`, `looks-iterate`: n steps add the steps among them that write one, and the turns of the inner loop in them, whatever nang is.
 use mathlib.Core.Path.{_≡_, refl, sym, ap, subst, _∙_}
 use mathlib.Core.Bool.{Bool, true, false}
 use Prim.Native.Nat.{ℕ, zero, suc, _+_, _*_, _-_, _≤_, _<_}
@@ -135,19 +135,34 @@ module _ (e : Inputs) where
   unfolding until
   looks-raise s g = looks-raise-by (stopsAt s) s refl
 
-  -- the rows after n steps are those before and the steps among the n that write one
-  rows-on : (n : ℕ) (g : (s : State) → iterate n (stepOf e) s .0 .rows ≡ s .0 .rows + count (turnOf e) rowsDue n s) (s : State) (b : Bool) → stopsAt s ≡ b
-      → iterate n (stepOf e) (stepOf e s) .0 .rows ≡ s .0 .rows + (rowsDue s + rest (count (turnOf e) rowsDue n) (stopBy b s (stepOf e s)))
-  unfolding stepOf
-  rows-on n g s true d =
-      let still = done-fixed e s d in
-      ap (λ (t : State). t .0 .rows) (ap (iterate n (stepOf e)) still ∙ iterate-fixed (stepOf e) n s still) ∙ omega (arith, done-adds e (s .0 .label) (s .0) d .1)
-  rows-on n g s false d = omega (arith, g (stepOf e s), step-rows e (s .0 .label) (s .0) (s .1))
+  -- a number that each step raises by c, which is 0 at Done: after n steps it has risen by the count
+  module _ (v c : State → ℕ) (raises : (s : State) → v (stepOf e s) ≡ v s + c s) (idle : (s : State) → stopsAt s ≡ true → c s ≡ 0) where
+    counts-on : (n : ℕ) (g : (s : State) → v (iterate n (stepOf e) s) ≡ v s + count (turnOf e) c n s) (s : State) (b : Bool) → stopsAt s ≡ b
+        → v (iterate n (stepOf e) (stepOf e s)) ≡ v s + (c s + rest (count (turnOf e) c n) (stopBy b s (stepOf e s)))
+    counts-on n g s true d =
+        let still = done-fixed e s d in
+        ap v (ap (iterate n (stepOf e)) still ∙ iterate-fixed (stepOf e) n s still) ∙ omega (arith, idle s d)
+    counts-on n g s false d = omega (arith, g (stepOf e s), raises s)
 
+    counts-iterate : (n : ℕ) (s : State) → v (iterate n (stepOf e) s) ≡ v s + count (turnOf e) c n s
+    unfolding iterate count until
+    counts-iterate zero s = omega arith
+    counts-iterate (suc n) s = counts-on n (counts-iterate n) s (stopsAt s) refl
+
+  rows-raise : (s : State) → stepOf e s .0 .rows ≡ s .0 .rows + rowsDue s
+  unfolding stepOf
+  rows-raise s = step-rows e (s .0 .label) (s .0) (s .1)
+
+  looks-step : (s : State) → stepOf e s .0 .looks ≡ s .0 .looks + lookTurns e s
+  unfolding stepOf
+  looks-step s = step-looks e (s .0 .label) (s .0) (s .1)
+
+  -- the rows after n steps are those before and the steps among the n that write one; the looks, those before and the turns of the inner loop in the n
   pub rows-iterate : (n : ℕ) (s : State) → iterate n (stepOf e) s .0 .rows ≡ s .0 .rows + count (turnOf e) rowsDue n s
-  unfolding iterate count until
-  rows-iterate zero s = omega arith
-  rows-iterate (suc n) s = rows-on n (rows-iterate n) s (stopsAt s) refl
+  rows-iterate = counts-iterate (λ (s : State). s .0 .rows) rowsDue rows-raise (λ s d. done-adds e (s .0 .label) (s .0) d .1)
+
+  pub looks-iterate : (n : ℕ) (s : State) → iterate n (stepOf e) s .0 .looks ≡ s .0 .looks + count (turnOf e) (lookTurns e) n s
+  looks-iterate = counts-iterate looksOfState (lookTurns e) looks-step (λ s d. done-adds e (s .0 .label) (s .0) d .0)
 
   -- a step from a reached state reaches one
   reaches-by : (b : Bool) (s : State) → stopsAt s ≡ b → Reached s → Reached (stepOf e s)

@@ -13,16 +13,9 @@ use lib.Ieee.Positive.{positive, first-pos, positive-of-value, value-pos}
 use Rattle.root.proofs.NearestRootLaws.{NearestRoot, nearest-root, root-range}
 use Rattle.root.proofs.MidpointLaws.{square, root-over, root-under}
 use Rattle.root.proofs.ScaledLaws.{spread, scaled-of-value, scaled-exact, scaled-below, units-fit, units-value, same-value}
+use Rattle.root.specs.Asked.{Nearest}
 use Rattle.root.specs.Root.{nearestRoot, rootOf, sqrtOf}
 use Rattle.arith.specs.Floats.{scaled}
-
--- r is the f32 nearest to the root of x, with no ties. Take any other f32 v, one of r's two neighbours for example. The root lies on r's side of the midpoint of v and r:
--- ((v + r) / 2)² is below x where v is below r, and above x where v is above r. Magnitudes are counted in smallest values, 2 ^ -149, and x in their squares, so that nothing is cut.
-pub record Nearest (x r : Float) : Type 0 where
-  pub above-zero : T (positive r)
-  pub is-f32 : T (fits binary32 r)
-  pub over-lower : (v : Float) → T (fits binary32 v) → scaled 149 v < scaled 149 r → (scaled 149 v + scaled 149 r) ^ 2 < 4 * scaled 298 x
-  pub under-higher : (v : Float) → T (fits binary32 v) → scaled 149 r < scaled 149 v → 4 * scaled 298 x < (scaled 149 v + scaled 149 r) ^ 2
 
 -- ---- worked cases
 
