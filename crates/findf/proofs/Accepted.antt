@@ -1,19 +1,15 @@
--- What the answers of the checks show.
+-- For `admission_of` and `findf_into`: what the answers of the checks show. Assumes nothing.
 use mathlib.Core.Path.{_≡_, refl}
 use Prim.Native.Nat.{ℕ, zero, suc, _≤_, _<_}
-use mathlib.Core.Bool.{Bool, true, false}
-use mathlib.Core.List.{List}
+use mathlib.Core.Bool.{true}
 use native.Mathlib.Omega.{arith}
-use lib.ListN.{getD}
-use lib.Dec.{leb}
-use lib.IntN.{ℤ, pos, negsuc}
 use lib.Ieee.{Float}
-use borrow.Author.Count.{below-more}
 use borrow.Author.Tests.{leb-true}
-use Rattle.limits.specs.Limits.{entriesWithin, broken, kWithin, freqWithin, ifobWithin}
-use Rattle.limits.proofs.LimitsLaws.{both, unbroken}
-use Rattle.findf.specs.Requires.{Entries}
-use Rattle.findf.specs.Findf.{startedOf, limitsOf, admissionBy, numberOf, refusedOf, findfBy}
+use Rattle.limits.specs.Limits.{broken, kWithin, freqWithin}
+use Rattle.limits.proofs.LimitsLaws.{unbroken}
+use Rattle.findf.specs.Requires.{Entries, startedOf}
+use Rattle.findf.specs.Inputs.{Job, secondOf, thirdOf}
+use Rattle.findf.specs.Findf.{limitsOf, admissionBy, admissionOf, numberOf, refusedOf, findfBy, findfOf}
 use Rattle.findf.specs.declared.checks.Admission.{Admission}
 use Rattle.findf.specs.declared.checks.Admission.the-variants.{Granted, Refused}
 use Rattle.findf.specs.declared.Reflectrix.{Reflectrix}
@@ -32,25 +28,35 @@ module _ (second third : Float) where
   unrefused (suc n) e = let z : _≡_ {A = ℕ} 0 1 = cc in absurd (omega arith)
 
 -- the checks' answer, once it is known, decides
-module _ (r : Reflectrix) (nang : ℕ) (freq amind : Float) (fvert hprim htrue afac : List Float) (ifob : List ℤ) {a b : Admission} (e : a ≡ b) where
-  pub refuses : {m q : ℕ} → q ≡ numberOf a → a ≡ Refused m → refusedOf q r ≡ findfBy r nang freq amind fvert hprim htrue afac ifob b
-  unfolding findfBy
-  refuses q k = rw (q, ← e, k)
+module _ (r : Reflectrix) (j : Job) where
+  refuses-by : (n : ℕ) {a : Admission} {m q : ℕ} → a ≡ admissionBy n (secondOf j) (thirdOf j) → q ≡ numberOf a → a ≡ Refused m → refusedOf q r ≡ findfBy n r j
+  unfolding findfBy admissionBy
+  refuses-by zero e q k = let z : _≡_ {A = ℕ} 0 1 = cc in absurd (omega arith)
+  refuses-by (suc n) e q k = rw (q, e)
 
-  pub walks : {fi1 fi2 : Float} → a ≡ Granted fi1 fi2
-      → startedOf r nang freq amind fi1 fi2 fvert hprim htrue afac ifob ≡ findfBy r nang freq amind fvert hprim htrue afac ifob b
-  unfolding findfBy
-  walks k = rw (← e, k)
+  pub refuses : {a : Admission} {m q : ℕ} → a ≡ admissionOf j → q ≡ numberOf a → a ≡ Refused m → refusedOf q r ≡ findfOf r j
+  unfolding findfOf admissionOf
+  refuses = refuses-by (broken (limitsOf j))
+
+  walks-by : (n : ℕ) {a : Admission} {fi1 fi2 : Float} → a ≡ admissionBy n (secondOf j) (thirdOf j) → a ≡ Granted fi1 fi2
+      → startedOf r (j .nang) (j .freq) (j .amind) fi1 fi2 (j .fvert) (j .hprim) (j .htrue) (j .afac) (j .ifob) ≡ findfBy n r j
+  unfolding findfBy admissionBy startedOf
+  walks-by zero {a} {fi1} {fi2} e k = let s : fi1 ≡ secondOf j = cc in let t : fi2 ≡ thirdOf j = cc in rw (s, t)
+  walks-by (suc n) e k = let z : _≡_ {A = ℕ} 0 1 = cc in absurd (omega arith)
+
+  pub walks : {a : Admission} {fi1 fi2 : Float} → a ≡ admissionOf j → a ≡ Granted fi1 fi2
+      → startedOf r (j .nang) (j .freq) (j .amind) fi1 fi2 (j .fvert) (j .hprim) (j .htrue) (j .afac) (j .ifob) ≡ findfOf r j
+  unfolding findfOf admissionOf
+  walks = walks-by (broken (limitsOf j))
 
 pub below-five : (k : ℕ) → kWithin k ≡ true → k < 5
 below-five k e = omega (arith, leb-true k 4 e)
 
 -- what the walk asks of a job with no broken limit
-pub fit : (k nang : ℕ) (freq amind : Float) (point fvert hprim htrue afac : List Float) (ifob : List ℤ)
-    → broken (limitsOf k nang freq amind point fvert hprim htrue afac ifob) ≡ 0 → Entries ifob × ((nang ≤ 40) × (freqWithin freq ≡ true))
+pub fit : (j : Job) → broken (limitsOf j) ≡ 0 → Entries (j .ifob) × ((j .nang ≤ 40) × (freqWithin (j .freq) ≡ true))
 unfolding limitsOf
-fit k nang freq amind point fvert hprim htrue afac ifob e =
+fit j e =
     let angles = unbroken _ _ _ (unbroken _ _ _ e .1) in
     let frequency = unbroken _ _ _ (angles .1) in
     let tables = unbroken _ _ _ (unbroken _ _ _ (unbroken _ _ _ (frequency .1) .1) .1) in
-    (unbroken _ _ _ (tables .1) .0, (leb-true nang 40 (angles .0), frequency .0))
+    (unbroken _ _ _ (tables .1) .0, (leb-true (j .nang) 40 (angles .0), frequency .0))

@@ -1,4 +1,4 @@
--- The walk from what the calls of the start ensure is the walk of an accepted job.
+-- For `started`: the walk from what the calls of the start ensure is the walk of an accepted job.
 use mathlib.Core.Path.{_≡_}
 use mathlib.Core.List.{List}
 use Prim.Native.Nat.{ℕ}
@@ -6,7 +6,9 @@ use lib.IntN.{ℤ}
 use lib.Ieee.{Float}
 use Rattle.arith.specs.Floats.{f32, _⊗_}
 use Rattle.findf.specs.Penang.{0·0, penangOf}
-use Rattle.findf.specs.Findf.{inputsOf, walkedOf, jfhzOf, unlessOf, begunBy, startedOf}
+use Rattle.findf.specs.Findf.{walkedOf, jfhzOf, unlessOf, begunBy}
+use Rattle.findf.specs.Inputs.{inputsOf}
+use Rattle.findf.specs.Requires.{startedOf}
 use Rattle.findf.specs.declared.penang.Penetration.{Penetration}
 use Rattle.findf.specs.declared.Reflectrix.{Reflectrix}
 

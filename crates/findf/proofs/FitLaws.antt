@@ -21,7 +21,8 @@ use Rattle.angles.specs.Arccosine.{acosOf}
 use Rattle.findf.specs.Penang.{0·0, 1·0, 0·0001, 0·9999, 0·999999, 89·9, 90·0, fratOf, angleOf, cuspOf, xmOf, cdelOf, penetration, topOf, f2Of, f1Of, penangOf}
 use Rattle.findf.specs.Walk.{ANG, angOf, start, searchBy, searchOf, nextLayerBy, nextLayerOf, nextCuspBy, nextCuspOf, filledBy, filledOf}
 use Rattle.findf.specs.Rows.{rawOf, nextModeOf, modeOf, highOf, correctedOf, rowOf}
-use Rattle.findf.specs.Findf.{Inputs, State, fillOf, stepBy, stepOf, begun, walkOf, walkedOf, limitsOf, findfOf}
+use Rattle.findf.specs.Findf.{State, fillOf, stepBy, stepOf, begun, walkOf, walkedOf, limitsOf, anglesOf, findfOf}
+use Rattle.findf.specs.Inputs.{Job, secondOf, Inputs}
 use Rattle.findf.proofs.StepLaws.{walk-iterate}
 use Rattle.findf.specs.Demand as demand
 use Rattle.findf.specs.Demand.{rowAt}
@@ -288,15 +289,15 @@ begun-fits r p was =
     let zeros = singles-same 45 0·0 (single-bits 0) in
     record { dels = zeros; hps = zeros; hts = was .hts; fvs = was .fvs; afs = was .afs; modes = was .modes }
 
-module _ (r : Reflectrix) (k nang : ℕ) (freq amind : Float) (fi : List (List Float)) (fvert hprim htrue afac : List Float) (ifob : List ℤ) where
+module _ (r : Reflectrix) (j : Job) where
   -- an accepted walk on such columns and tables leaves such columns
-  pub walked-fits : laws.Accepted r k nang freq amind fi fvert hprim htrue afac ifob → Singles fvert → Singles htrue → Singles afac → Fitting r
-      → Fitting (findfOf r k nang freq amind fi fvert hprim htrue afac ifob .rfx)
+  pub walked-fits : laws.Accepted r j → Singles (j .fvert) → Singles (j .htrue) → Singles (j .afac) → Fitting r
+      → Fitting (findfOf r j .rfx)
   unfolding walkedOf limitsOf
   walked-fits ok a b c was =
-      let e = demand.read r k nang freq amind fi fvert hprim htrue afac ifob in
-      let first = demand.first r k nang freq amind fi fvert hprim htrue afac ifob in
-      let few : nang ≤ 40 = leb-true nang 40 (unbroken _ _ _ (unbroken _ _ _ ok .1) .0) in
-      let read : Read e = record { fvert-read = a; htrue-read = b; afac-read = c; delpen-read = penang-angled fvert htrue (getD (getD fi k []) 1 nan) freq .angles } in
-      let all = iterate-keeps (stepOf e) Kept (kept-step e read) 430 (start, first) (record { low = omega arith; fit = begun-fits r (penangOf fvert htrue (getD (getD fi k []) 1 nan) freq) was }) in
-      rw (laws.findf-walks r k nang freq amind fi fvert hprim htrue afac ifob ok) (subst (λ (s : State). Fitting (s .1)) (sym (walk-iterate e few first 430 (omega arith))) (all .fit))
+      let e = demand.read j in
+      let first = demand.first r j in
+      let few : j .nang ≤ 40 = leb-true (j .nang) 40 (unbroken _ _ _ (unbroken _ _ _ ok .1) .0) in
+      let read : Read e = record { fvert-read = a; htrue-read = b; afac-read = c; delpen-read = penang-angled (j .fvert) (j .htrue) (secondOf j) (j .freq) .angles } in
+      let all = iterate-keeps (stepOf e) Kept (kept-step e read) 430 (start, first) (record { low = omega arith; fit = begun-fits r (anglesOf j) was }) in
+      rw (laws.findf-walks r j ok) (subst (λ (s : State). Fitting (s .1)) (sym (walk-iterate e few first 430 (omega arith))) (all .fit))

@@ -21,7 +21,8 @@ use Rattle.findf.specs.Penang.{0·0}
 use Rattle.findf.specs.Walk.{start}
 use Rattle.findf.specs.Demand.{due, rowAt, RowIs}
 use Rattle.findf.specs.Rows.{farOf}
-use Rattle.findf.specs.Findf.{Inputs, State, fillOf, stepBy, stepOf, unlessOf, begun}
+use Rattle.findf.specs.Findf.{State, fillOf, stepBy, stepOf, unlessOf, begun}
+use Rattle.findf.specs.Inputs.{Inputs}
 use Rattle.findf.proofs.StepLaws.{step-rows}
 use Rattle.findf.specs.declared.penang.Penetration.{Penetration}
 use Rattle.findf.specs.declared.walk.Walk.{Walk}

@@ -21,7 +21,8 @@ use Rattle.findf.proofs.LookLaws.{looks-are-turns}
 use Rattle.findf.specs.Walk.{89·99, angOf, searchBy, searchOf, nextLayerBy, nextLayerOf, nextCuspBy, nextCuspOf, filledBy, filledOf, withLabel, doneAt, start}
 use Rattle.findf.specs.Demand.{turnsFrom, turnsBy, turnsAt, lookTurns, due, rowsDue}
 use Rattle.findf.proofs.WalkLaws.{Good, μ, step-fine, few-looks, few-rows, good-start}
-use Rattle.findf.specs.Findf.{Inputs, State, stepBy, stepOf, turnOf, walkOf}
+use Rattle.findf.specs.Findf.{State, stepBy, stepOf, turnOf, walkOf}
+use Rattle.findf.specs.Inputs.{Inputs}
 use Rattle.findf.specs.declared.look.Looked.{Looked}
 use Rattle.findf.specs.declared.walk.Walk.{Walk}
 use Rattle.findf.specs.declared.walk.Label.{Label}

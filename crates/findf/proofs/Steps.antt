@@ -5,7 +5,8 @@ use lib.Ieee.{Float}
 use Rattle.arith.specs.Run.{more, done, stopBy, until}
 use Rattle.findf.specs.Walk.{searchOf, nextLayerOf, nextCuspOf, backOf, afterOf, filledOf, doneAt}
 use Rattle.findf.specs.Rows.{rawOf, modeOf, correctionOf, rowBy, rowOf, skipOf, skipIn, farOf, putOf}
-use Rattle.findf.specs.Findf.{Inputs, State, fillOf, stepBy, stepOf, turnOf}
+use Rattle.findf.specs.Findf.{State, fillOf, stepBy, stepOf, turnOf}
+use Rattle.findf.specs.Inputs.{Inputs}
 use Rattle.findf.specs.declared.walk.Walk.{Walk}
 use Rattle.findf.specs.declared.walk.Label as L
 use Rattle.findf.specs.declared.walk.Label.the-variants.{Search, NextLayer, Fill, NextCusp, Done}
@@ -42,7 +43,7 @@ module _ (e : Inputs) (w : Walk) (r : Reflectrix) where
 
   row-is : (fill : F.Fill) {q : Filling} {m : Corrected} {t : Row} → Filled fill q → m ≡ correctionOf (e .freq) (e .fc2) (q .raw)
       → t ≡ rowBy (q .raw) m (q .mode)
-      → t ≡ rowOf (e .fvert) (e .hprim) (e .htrue) (e .afac) (e .ifob) (e .delpen) (r .delfx) (e .fi1) (e .fc2) (e .freq) (e .jfhz) fill w
+      → t ≡ rowOf e (r .delfx) fill w
   unfolding rowOf
   row-is fill q m t = rw (t, m, q .0, q .1 .0)
 

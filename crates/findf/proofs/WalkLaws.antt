@@ -13,7 +13,8 @@ use Rattle.findf.proofs.LookLaws.{Seen, Looks, looks-leave}
 use Rattle.findf.specs.Walk.{searchBy, searchOf, nextLayerBy, nextLayerOf, nextCuspBy, nextCuspOf, backOf, filledBy, filledOf, doneAt, start}
 use Rattle.findf.specs.Requires.{byLabel, takes, interpolates, follows, Safe}
 use Rattle.findf.specs.Demand.{due}
-use Rattle.findf.specs.Findf.{Inputs, stepBy}
+use Rattle.findf.specs.Findf.{stepBy}
+use Rattle.findf.specs.Inputs.{Inputs}
 use Rattle.findf.specs.declared.look.Looked.{Looked}
 use Rattle.findf.specs.declared.walk.Walk.{Walk}
 use Rattle.findf.specs.declared.walk.Label.{Label}

@@ -2,20 +2,20 @@
 -- steps, and the row that a fill writes.
 use mathlib.Core.Path.{_≡_}
 use mathlib.Core.Bool.{Bool, true, false}
-use mathlib.Core.List.{List, []}
+use mathlib.Core.List.{List}
 use Prim.Native.Nat.{ℕ, suc, _-_, _*_}
 use lib.Dec.{leb}
 use lib.ListN.{getD}
 use lib.IntN.{ℤ}
 use lib.Ieee.{Float, nan, lt, le}
-use Rattle.arith.specs.Floats.{_⊖_, _⊗_}
+use Rattle.arith.specs.Floats.{_⊖_}
 use Rattle.arith.specs.Run.{count, iterate}
-use Rattle.findf.specs.Penang.{0·0, penangOf}
+use Rattle.findf.specs.Inputs.{Job, Inputs}
+use Rattle.findf.specs.Penang.{0·0}
 use Rattle.findf.specs.Look.{lookOf}
 use Rattle.findf.specs.Walk.{89·99, angOf, start}
 use Rattle.findf.specs.Rows.{rowOf}
-use Rattle.findf.specs.Findf.{Inputs, State, inputsOf, jfhzOf, stepOf, begun}
-use Rattle.findf.specs.declared.penang.Penetration.{Penetration}
+use Rattle.findf.specs.Findf.{State, stepOf, begun, readBy, anglesOf}
 use Rattle.findf.specs.declared.walk.Walk.{Walk}
 use Rattle.findf.specs.declared.walk.Label.{Label}
 use Rattle.findf.specs.declared.walk.Label.the-variants.{Search, NextLayer, Fill, NextCusp, Done}
@@ -60,31 +60,19 @@ due Done = 0
 abbrev pub rowsDue : State → ℕ
 rowsDue s = due (s .0 .label)
 
-module _ (r : Reflectrix) (k nang : ℕ) (freq amind : Float) (fi : List (List Float)) (fvert hprim htrue afac : List Float) (ifob : List ℤ) where
-  abbrev second : Float
-  second = getD (getD fi k []) 1 nan
+-- what an accepted job's walk reads, the reflectrix it starts with, and its state after n steps
+abbrev pub read : Job → Inputs
+read j = readBy j (anglesOf j)
 
-  abbrev third : Float
-  third = getD (getD fi k []) 2 nan
+abbrev pub first : Reflectrix → Job → Reflectrix
+first r j = begun r (anglesOf j)
 
-  abbrev angles : Penetration
-  angles = penangOf fvert htrue second freq
-
-  -- what an accepted job's walk reads, and the reflectrix it starts with
-  abbrev pub read : Inputs
-  read = inputsOf nang freq amind (jfhzOf freq) second (third ⊗ third) (angles .delpen) fvert hprim htrue afac ifob
-
-  abbrev pub first : Reflectrix
-  first = begun r angles
-
-  -- the state after n steps
-  abbrev pub stateAt : ℕ → State
-  stateAt n = iterate n (stepOf read) (start, first)
+abbrev pub stateAt : Reflectrix → Job → ℕ → State
+stateAt r j n = iterate n (stepOf (read j)) (start, first r j)
 
 -- the row that a fill writes
 abbrev pub rowAt : Inputs → F.Fill → Walk → Reflectrix → Row
-rowAt e fill w r =
-    rowOf (e .fvert) (e .hprim) (e .htrue) (e .afac) (e .ifob) (e .delpen) (r .delfx) (e .fi1) (e .fc2) (e .freq) (e .jfhz) fill w
+rowAt e fill w r = rowOf e (r .delfx) fill w
 
 -- row i of r is t
 pub record RowIs (i : ℕ) (t : Row) (r : Reflectrix) : Type 0 where

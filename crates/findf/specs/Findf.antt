@@ -11,6 +11,7 @@ use Rattle.arith.specs.Run.{Next, run, until}
 use Rattle.limits.specs.Limits.{entriesWithin, broken, refusalK, kWithin, refusalNang, nangWithin, refusalFreq, freqWithin, refusalAmind, amindWithin, refusalFi, fiWithin, refusalTable, refusalIfob}
 use Rattle.findf.specs.Penang.{0·0, 1·0, penangOf}
 use Rattle.findf.specs.Walk.{searchOf, nextLayerOf, nextCuspOf, filledOf, doneAt, start}
+use Rattle.findf.specs.Inputs.{Job, secondOf, thirdOf, Inputs, inputsOf}
 use Rattle.findf.specs.Rows.{rowOf, putRow}
 use Rattle.findf.specs.Checks.{rowsWithin}
 use Rattle.findf.specs.declared.penang.Penetration.{Penetration}
@@ -23,38 +24,6 @@ use Rattle.findf.specs.declared.checks.Admission.the-variants.{Granted, 
 use Rattle.findf.specs.declared.Reflectrix.{Reflectrix}
 use Rattle.findf.specs.declared.Walked.{Walked}
 
--- what the walk reads
-pub record Inputs : Type 0 where
-  pub nang : ℕ
-  pub freq : Float
-  pub amind : Float
-  pub jfhz : ℕ
-  pub fi1 : Float
-  pub fc2 : Float
-  pub delpen : List Float
-  pub fvert : List Float
-  pub hprim : List Float
-  pub htrue : List Float
-  pub afac : List Float
-  pub ifob : List ℤ
-
-abbrev pub inputsOf : ℕ → Float → Float → ℕ → Float → Float → List Float → List Float → List Float → List Float → List Float → List ℤ → Inputs
-inputsOf nang freq amind jfhz fi1 fc2 delpen fvert hprim htrue afac ifob =
-    record {
-      nang = nang;
-      freq = freq;
-      amind = amind;
-      jfhz = jfhz;
-      fi1 = fi1;
-      fc2 = fc2;
-      delpen = delpen;
-      fvert = fvert;
-      hprim = hprim;
-      htrue = htrue;
-      afac = afac;
-      ifob = ifob;
-    }
-
 -- a state of the walk: what the search knows, and the reflectrix as written so far
 abbrev pub State : Type 0
 State = Walk × Reflectrix
@@ -62,8 +31,7 @@ State = Walk × Reflectrix
 -- the reflectrix once the row of a fill is written (lines 810 to 889)
 unfoldable pub fillOf : Inputs → F.Fill → Walk → Reflectrix → Reflectrix
 fillOf e fill w r =
-    putRow (e .amind) (w .rows) (w .il) r
-    (rowOf (e .fvert) (e .hprim) (e .htrue) (e .afac) (e .ifob) (e .delpen) (r .delfx) (e .fi1) (e .fc2) (e .freq) (e .jfhz) fill w)
+    putRow (e .amind) (w .rows) (w .il) r (rowOf e (r .delfx) fill w)
 
 -- One step is one turn of the Rust's label loop with its looks (lines 725 to 903). Done is a fixed point: the turn that finds Done is no step.
 unfoldable pub stepBy : Inputs → Label → Walk → Reflectrix → State
@@ -134,26 +102,24 @@ begunBy r delpen dmaxkm dskpkm =
 abbrev pub begun : Reflectrix → Penetration → Reflectrix
 begun r p = begunBy r (p .delpen) (unlessOf (p .dead) 0·0) (unlessOf (p .dead) (f32 0x461c_4000))
 
--- fc2 is the square of fi's third number (line 692)
-abbrev pub begunWalk : Reflectrix → ℕ → Float → Float → Float → Float → List Float → List Float → List Float → List Float → List ℤ → Penetration → Walked
-begunWalk r nang freq amind fi1 fi2 fvert hprim htrue afac ifob p =
-    walkedOf (inputsOf nang freq amind (jfhzOf freq) fi1 (fi2 ⊗ fi2) (p .delpen) fvert hprim htrue afac ifob) (begun r p)
+-- what an accepted job's walk reads: fc2 is the square of fi's third number (line 692)
+abbrev pub readBy : Job → Penetration → Inputs
+readBy j p =
+    inputsOf (j .nang) (j .freq) (j .amind) (jfhzOf (j .freq)) (secondOf j) (thirdOf j ⊗ thirdOf j) (p .delpen) (j .fvert) (j .hprim) (j .htrue) (j .afac) (j .ifob)
 
--- an accepted job
-unfoldable pub startedOf : Reflectrix → ℕ → Float → Float → Float → Float → List Float → List Float → List Float → List Float → List ℤ → Walked
-startedOf r nang freq amind fi1 fi2 fvert hprim htrue afac ifob =
-    begunWalk r nang freq amind fi1 fi2 fvert hprim htrue afac ifob (penangOf fvert htrue fi1 freq)
+abbrev pub anglesOf : Job → Penetration
+anglesOf j = penangOf (j .fvert) (j .htrue) (secondOf j) (j .freq)
 
 -- "`findf` by value checks 3 to 6, 8 to 10", in this order
-unfoldable pub limitsOf : ℕ → ℕ → Float → Float → List Float → List Float → List Float → List Float → List Float → List ℤ → List (ℕ × Bool)
-limitsOf k nang freq amind point fvert hprim htrue afac ifob =
-    (refusalK, kWithin k)
-    ∷ (refusalNang, nangWithin nang)
-    ∷ (refusalFreq, freqWithin freq)
-    ∷ (refusalAmind, amindWithin amind)
-    ∷ (refusalFi, fiWithin (getD point 1 nan) (getD point 2 nan))
-    ∷ (refusalTable, rowsWithin fvert hprim htrue afac 30)
-    ∷ (refusalIfob, entriesWithin ifob 1200)
+unfoldable pub limitsOf : Job → List (ℕ × Bool)
+limitsOf j =
+    (refusalK, kWithin (j .k))
+    ∷ (refusalNang, nangWithin (j .nang))
+    ∷ (refusalFreq, freqWithin (j .freq))
+    ∷ (refusalAmind, amindWithin (j .amind))
+    ∷ (refusalFi, fiWithin (secondOf j) (thirdOf j))
+    ∷ (refusalTable, rowsWithin (j .fvert) (j .hprim) (j .htrue) (j .afac) 30)
+    ∷ (refusalIfob, entriesWithin (j .ifob) 1200)
     ∷ []
 
 -- the answer of the checks: the two numbers of the point, or the number of the broken limit
@@ -165,22 +131,17 @@ abbrev pub numberOf : Admission → ℕ
 numberOf (Granted second third) = 0
 numberOf (Refused n) = n
 
--- `point` is the inner array of point k
-unfoldable pub admissionOf : ℕ → ℕ → Float → Float → List (List Float) → List Float → List Float → List Float → List Float → List ℤ → Admission
-admissionOf k nang freq amind fi fvert hprim htrue afac ifob =
-    let point = getD fi k [] in
-    admissionBy (broken (limitsOf k nang freq amind point fvert hprim htrue afac ifob)) (getD point 1 nan) (getD point 2 nan)
+unfoldable pub admissionOf : Job → Admission
+admissionOf j = admissionBy (broken (limitsOf j)) (secondOf j) (thirdOf j)
 
 -- "a refusal changes nothing lent or passed"
 abbrev pub refusedOf : ℕ → Reflectrix → Walked
 refusedOf refusal r = record { refusal = refusal; looks = 0; rfx = r }
 
--- what becomes of a job by the checks' answer
-unfoldable pub findfBy : Reflectrix → ℕ → Float → Float → List Float → List Float → List Float → List Float → List ℤ → Admission → Walked
-findfBy r nang freq amind fvert hprim htrue afac ifob (Granted fi1 fi2) = startedOf r nang freq amind fi1 fi2 fvert hprim htrue afac ifob
-findfBy r nang freq amind fvert hprim htrue afac ifob (Refused n) = refusedOf n r
+-- findf, by the number of the first limit broken
+unfoldable pub findfBy : ℕ → Reflectrix → Job → Walked
+findfBy zero r j = walkedOf (readBy j (anglesOf j)) (begun r (anglesOf j))
+findfBy (suc n) r j = refusedOf (suc n) r
 
--- findf by value
-unfoldable pub findfOf : Reflectrix → ℕ → ℕ → Float → Float → List (List Float) → List Float → List Float → List Float → List Float → List ℤ → Walked
-findfOf r k nang freq amind fi fvert hprim htrue afac ifob =
-    findfBy r nang freq amind fvert hprim htrue afac ifob (admissionOf k nang freq amind fi fvert hprim htrue afac ifob)
+unfoldable pub findfOf : Reflectrix → Job → Walked
+findfOf r j = findfBy (broken (limitsOf j)) r j

@@ -2,6 +2,7 @@
 pub mod Penang
 pub mod Look
 pub mod Walk
+pub mod Inputs
 pub mod Rows
 pub mod Checks
 pub mod Findf

@@ -7,10 +7,15 @@ use lib.IntN.{ℤ}
 use lib.Ieee.{Float}
 use Rattle.arith.specs.Floats.{_⊗_, D2R}
 use Rattle.limits.specs.Limits.{ifobWithin, entriesWithin}
+use Rattle.findf.specs.Penang.{penangOf}
+use Rattle.findf.specs.Inputs.{inputsOf}
+use Rattle.findf.specs.Findf.{jfhzOf, begun, walkedOf}
 use Rattle.findf.specs.Demand.{due}
 use Rattle.findf.specs.Walk.{angOf}
 use Rattle.findf.specs.Rows.{rcosdOf}
 use Rattle.findf.specs.declared.rows.Ahead.{Ahead}
+use Rattle.findf.specs.declared.Reflectrix.{Reflectrix}
+use Rattle.findf.specs.declared.Walked.{Walked}
 use Rattle.findf.specs.declared.walk.Walk.{Walk}
 use Rattle.findf.specs.declared.walk.Label.{Label}
 use Rattle.findf.specs.declared.walk.Label.the-variants.{Search, NextLayer, Fill, NextCusp, Done}
@@ -80,3 +85,9 @@ Angled n del = 1 ≤ n → (n ≤ 40) × (del ≡ angOf (n - 1) ⊗ D2R)
 -- what was worked out ahead is what a row at ANG's angle ia takes
 abbrev pub Foreseen : Ahead → Type 0
 Foreseen a = (1 ≤ a .ia) × (a .rcosd ≡ rcosdOf (angOf (a .ia - 1) ⊗ D2R))
+
+-- ---- the walk from its start on, with the two numbers of the point that the checks granted
+unfoldable pub startedOf : Reflectrix → ℕ → Float → Float → Float → Float → List Float → List Float → List Float → List Float → List ℤ → Walked
+startedOf r nang freq amind fi1 fi2 fvert hprim htrue afac ifob =
+    let p = penangOf fvert htrue fi1 freq in
+    walkedOf (inputsOf nang freq amind (jfhzOf freq) fi1 (fi2 ⊗ fi2) (p .delpen) fvert hprim htrue afac ifob) (begun r p)

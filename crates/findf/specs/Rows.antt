@@ -11,6 +11,7 @@ use Rattle.angles.specs.SinCos.{cosOf}
 use Rattle.angles.specs.Arcsine.{asinOf}
 use Rattle.findf.specs.Penang.{0·0, 1·0}
 use Rattle.findf.specs.Look.{entryOf}
+use Rattle.findf.specs.Inputs.{Inputs}
 use Rattle.findf.specs.Walk.{angOf}
 use Rattle.findf.specs.declared.walk.Walk.{Walk}
 use Rattle.findf.specs.declared.walk.Fill.{Fill}
@@ -107,10 +108,10 @@ rowBy a m mode =
 abbrev pub rowFrom : Float → Float → ℕ → Raw → Row
 rowFrom freq fc2 mode a = rowBy a (correctionOf freq fc2 a) mode
 
--- the row of a fill, whole
-unfoldable pub rowOf : List Float → List Float → List Float → List Float → List ℤ → List Float → List Float → Float → Float → Float → ℕ → Fill → Walk → Row
-rowOf fvert hprim htrue afac ifob delpen delfx fi1 fc2 freq jfhz fill w =
-    rowFrom freq fc2 (modeOf fill (w .il) fi1) (rawOf fvert hprim htrue afac ifob delpen delfx jfhz fill w)
+-- the row of a fill, whole; delfx as written so far
+unfoldable pub rowOf : Inputs → List Float → Fill → Walk → Row
+rowOf e delfx fill w =
+    rowFrom (e .freq) (e .fc2) (modeOf fill (w .il) (e .fi1)) (rawOf (e .fvert) (e .hprim) (e .htrue) (e .afac) (e .ifob) (e .delpen) delfx (e .jfhz) fill w)
 
 -- lines 877 to 884; il is the walk's layer: at a row after a cusp "it is the old one"
 unfoldable pub skipOf : Skip → Row → ℕ → Skip

@@ -2,8 +2,12 @@
 ghost use mathlib.Core.Path.{_≡_};
 ghost use mathlib.Core.Bool.{true, cond};
 ghost use Prim.Native.Nat.{ℕ};
+ghost use mathlib.Core.List.{List, []};
+ghost use lib.ListN.{getD};
+ghost use lib.Ieee.{Float};
 ghost use Rattle.limits.specs.Limits.{kWithin, broken};
 ghost use Rattle.findf.specs.Checks.{rowWithin, rowsWithin};
+ghost use Rattle.findf.specs.Inputs.{jobBy};
 ghost use Rattle.findf.specs.Findf.{limitsOf, admissionOf, numberOf};
 
 // The second and the third number of the job's point, or the number of the first broken limit.
@@ -52,7 +56,7 @@ fn broken_after_k(
     afac: &[f32; 30],
     ifob: &[i32; 1200],
 ) -> u32
-    ensures { λ r. ⌜ ((k : ℕ) → kWithin k ≡ true → r ≡ broken (limitsOf k nang freq amind (now (point .entry)) (now (fvert .entry)) (now (hprim .entry)) (now (htrue .entry)) (now (afac .entry)) (now (ifob .entry)))) ⌝ }
+    ensures { λ r. ⌜ ((k : ℕ) (fi : List (List Float)) → kWithin k ≡ true → getD fi k [] ≡ now (point .entry) → r ≡ broken (limitsOf (jobBy k nang freq amind fi (now (fvert .entry)) (now (hprim .entry)) (now (htrue .entry)) (now (afac .entry)) (now (ifob .entry))))) ⌝ }
 {
     kept_or(
         limits::nang_within(nang),
@@ -89,7 +93,7 @@ pub(crate) fn admission_of(
     afac: &[f32; 30],
     ifob: &[i32; 1200],
 ) -> Admission
-    ensures { λ r. ⌜ r ≡ admissionOf k nang freq amind (now (fi .entry)) (now (fvert .entry)) (now (hprim .entry)) (now (htrue .entry)) (now (afac .entry)) (now (ifob .entry)) ⌝ }
+    ensures { λ r. ⌜ r ≡ admissionOf (jobBy k nang freq amind (now (fi .entry)) (now (fvert .entry)) (now (hprim .entry)) (now (htrue .entry)) (now (afac .entry)) (now (ifob .entry))) ⌝ }
 {
     if limits::k_within(k) {
         let point = fi[k];

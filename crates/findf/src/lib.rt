@@ -4,8 +4,9 @@ ghost use mathlib.Core.Path.{_≡_};
 ghost use Prim.Native.Nat.{_≤_};
 ghost use mathlib.Core.Bool.{true};
 ghost use Rattle.limits.specs.Limits.{freqWithin};
-ghost use Rattle.findf.specs.Requires.{Entries};
-ghost use Rattle.findf.specs.Findf.{inputsOf, jfhzOf, unlessOf, walkedOf, startedOf, findfOf};
+ghost use Rattle.findf.specs.Requires.{Entries, startedOf};
+ghost use Rattle.findf.specs.Inputs.{jobBy, inputsOf};
+ghost use Rattle.findf.specs.Findf.{jfhzOf, unlessOf, walkedOf, findfOf};
 ghost use Rattle.findf.specs.Lent.{reflectrixFrom, walkedFrom};
 
 mod checks;
@@ -282,7 +283,7 @@ pub fn findf_into(
     afac: &[f32; 30],
     ifob: &[i32; 1200],
 ) -> Outcome
-    ensures { λ r. ⌜ walkedFrom (now (delfx .exit)) (now (hpflx .exit)) (now (htflx .exit)) (now (gdflx .exit)) (now (fvflx .exit)) (now (afflx .exit)) (now (imode .exit)) r ≡ findfOf (reflectrixFrom (now (delfx .entry)) (now (hpflx .entry)) (now (htflx .entry)) (now (gdflx .entry)) (now (fvflx .entry)) (now (afflx .entry)) (now (imode .entry)) figures) k nang freq amind fi (now (fvert .entry)) (now (hprim .entry)) (now (htrue .entry)) (now (afac .entry)) (now (ifob .entry)) ⌝ }
+    ensures { λ r. ⌜ walkedFrom (now (delfx .exit)) (now (hpflx .exit)) (now (htflx .exit)) (now (gdflx .exit)) (now (fvflx .exit)) (now (afflx .exit)) (now (imode .exit)) r ≡ findfOf (reflectrixFrom (now (delfx .entry)) (now (hpflx .entry)) (now (htflx .entry)) (now (gdflx .entry)) (now (fvflx .entry)) (now (afflx .entry)) (now (imode .entry)) figures) (jobBy k nang freq amind fi (now (fvert .entry)) (now (hprim .entry)) (now (htrue .entry)) (now (afac .entry)) (now (ifob .entry))) ⌝ }
 {
     let admission = checks::admission_of(
         k,
@@ -339,7 +340,7 @@ pub fn findf(
     afac: [f32; 30],
     ifob: [i32; 1200],
 ) -> Walked
-    ensures { λ r. ⌜ r ≡ findfOf rfx k nang freq amind fi fvert hprim htrue afac ifob ⌝ }
+    ensures { λ r. ⌜ r ≡ findfOf rfx (jobBy k nang freq amind fi fvert hprim htrue afac ifob) ⌝ }
 {
     let mut delfx = rfx.delfx;
     let mut hpflx = rfx.hpflx;

@@ -1,5 +1,6 @@
 // A C entry of findf into lent columns, for the test host alone. It is a library of its own, in which findf_into is called from one place, as a product calls it.
 ghost use mathlib.Core.Path.{_≡_};
+ghost use Rattle.findf.specs.Inputs.{jobBy};
 ghost use Rattle.findf.specs.Findf.{findfOf};
 ghost use Rattle.findf.specs.Lent.{reflectrixFrom, walkedFrom};
 use findf::Figures;
@@ -27,7 +28,7 @@ pub extern "C" fn ray_findf_into(
     ifob: &[i32; 1200],
 ) -> Outcome
     ensures { λ r. ⌜ walkedFrom (now (delfx .exit)) (now (hpflx .exit)) (now (htflx .exit)) (now (gdflx .exit)) (now (fvflx .exit)) (now (afflx .exit)) (now (imode .exit)) r
-        ≡ findfOf (reflectrixFrom (now (delfx .entry)) (now (hpflx .entry)) (now (htflx .entry)) (now (gdflx .entry)) (now (fvflx .entry)) (now (afflx .entry)) (now (imode .entry)) figures) k nang freq amind (now (fi .entry)) (now (fvert .entry)) (now (hprim .entry)) (now (htrue .entry)) (now (afac .entry)) (now (ifob .entry)) ⌝ }
+        ≡ findfOf (reflectrixFrom (now (delfx .entry)) (now (hpflx .entry)) (now (htflx .entry)) (now (gdflx .entry)) (now (fvflx .entry)) (now (afflx .entry)) (now (imode .entry)) figures) (jobBy k nang freq amind (now (fi .entry)) (now (fvert .entry)) (now (hprim .entry)) (now (htrue .entry)) (now (afac .entry)) (now (ifob .entry))) ⌝ }
 {
     findf::findf_into(
         delfx,

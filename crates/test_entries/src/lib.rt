@@ -4,6 +4,7 @@ ghost use Rattle.root.specs.Root.{sqrtOf};
 ghost use Rattle.fnorml.specs.Fnorml.{fnormlOf};
 ghost use Rattle.sigdis.specs.Prbmuf.{prbmufOf, refusalOf, leftOf};
 ghost use Rattle.allmodes.specs.AllModes.{resetOf, accumulateOf};
+ghost use Rattle.findf.specs.Inputs.{jobBy};
 ghost use Rattle.findf.specs.Findf.{findfOf};
 ghost use Rattle.fdist.specs.Fdist.{fdistOf};
 ghost use Rattle.test_entries.specs.Entries.{hourOf};
@@ -104,7 +105,7 @@ pub extern "C" fn ray_findf(
     afac: &[f32; 30],
     ifob: &[i32; 1200],
 ) -> Walked
-    ensures { λ r. ⌜ r ≡ findfOf rfx k nang freq amind (now (fi .entry)) (now (fvert .entry)) (now (hprim .entry)) (now (htrue .entry)) (now (afac .entry)) (now (ifob .entry)) ⌝ }
+    ensures { λ r. ⌜ r ≡ findfOf rfx (jobBy k nang freq amind (now (fi .entry)) (now (fvert .entry)) (now (hprim .entry)) (now (htrue .entry)) (now (afac .entry)) (now (ifob .entry))) ⌝ }
 {
     findf::findf(
         rfx,

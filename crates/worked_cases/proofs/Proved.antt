@@ -19,7 +19,7 @@ use Rattle.findf.specs.Look.{entryOf, lookBy, lookOf, looksOf}
 use Rattle.findf.specs.Walk.{ANG, angOf, searchBy, searchOf, nextLayerBy, nextLayerOf, nextCuspBy, nextCuspOf, filledBy, filledOf}
 use Rattle.findf.specs.Rows.{gapOf, slopeOf, rawOf, nextModeOf, rcosdOf, highOf, hopOf, correctedOf, rowOf, skipOf, farOf}
 use Rattle.findf.specs.Checks.{rowsWithin}
-use Rattle.findf.specs.Findf.{fillOf, stepBy, stepOf, walkOf, walkedOf, jfhzOf, startedOf, limitsOf, admissionBy, admissionOf, findfBy, findfOf}
+use Rattle.findf.specs.Findf.{fillOf, stepBy, stepOf, walkOf, walkedOf, jfhzOf, limitsOf, findfBy, findfOf}
 use Rattle.fdist.specs.Pairs.{betweenOf, risingOf, equalOf, fallingOf, pairOf}
 use Rattle.fdist.specs.Fdist as hop
 use Rattle.job.specs.Solved.{solvedFrom}
@@ -47,7 +47,7 @@ every [] = true
 every (c ∷ cs) = same (given c) (expected c) && every cs
 
 pub every-case : T (every cases)
-unfolding every same cases given expected asked answered word solved found rowsOf numbered fnormlOf tailOf sizeOf prbmufOf chanceOf sideOf spreadOf absOf minOf maxOf toBits ofBits ofInt neg add sub mul div lt le eq toUnsigned within broken sqrtOf run until fratOf angleOf cuspOf xmOf cdelOf topOf f2Of f1Of penangOf entryOf lookBy lookOf looksOf ANG angOf searchBy searchOf nextLayerBy nextLayerOf nextCuspBy nextCuspOf filledBy filledOf gapOf slopeOf rawOf nextModeOf rcosdOf highOf hopOf correctedOf rowOf skipOf farOf rowsWithin entriesWithin fillOf stepBy stepOf walkOf walkedOf jfhzOf startedOf limitsOf admissionBy admissionOf findfBy findfOf betweenOf risingOf equalOf fallingOf pairOf hop.placeBy hop.afterOf hop.turnBy hop.turnOf hop.runOf hop.searchBy hop.fdistBy solvedFrom
+unfolding every same cases given expected asked answered word solved found rowsOf numbered fnormlOf tailOf sizeOf prbmufOf chanceOf sideOf spreadOf absOf minOf maxOf toBits ofBits ofInt neg add sub mul div lt le eq toUnsigned within broken sqrtOf run until fratOf angleOf cuspOf xmOf cdelOf topOf f2Of f1Of penangOf entryOf lookBy lookOf looksOf ANG angOf searchBy searchOf nextLayerBy nextLayerOf nextCuspBy nextCuspOf filledBy filledOf gapOf slopeOf rawOf nextModeOf rcosdOf highOf hopOf correctedOf rowOf skipOf farOf rowsWithin entriesWithin fillOf stepBy stepOf walkOf walkedOf jfhzOf limitsOf findfBy findfOf betweenOf risingOf equalOf fallingOf pairOf hop.placeBy hop.afterOf hop.turnBy hop.turnOf hop.runOf hop.searchBy hop.fdistBy solvedFrom
 every-case = tt
 
 at : (cs : List Case) (d : Case) (k : ℕ) → T (every cs) → k < length cs → given (getD cs k d) ≡ expected (getD cs k d)

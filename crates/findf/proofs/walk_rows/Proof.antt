@@ -3,10 +3,10 @@ use native.Mathlib.Omega.{arith}
 use borrow.Author.Needs.{needs}
 use Rattle.arith.proofs.RunLaws.{Leads, leads-start, leads-more, leads-done}
 use Rattle.findf.specs.Walk.{ANG, start}
-use Rattle.findf.specs.Requires.{Safe}
-use Rattle.findf.specs.Requires.{Foreseen}
+use Rattle.findf.specs.Requires.{Safe, Foreseen}
 use Rattle.findf.proofs.WalkLaws.{μ, Good, good-safe, steps-fine, search-fine, next-layer-fine, next-cusp-fine, filled-fine}
-use Rattle.findf.specs.Findf.{inputsOf, turnOf, walkOf, walkedOf, answer}
+use Rattle.findf.specs.Findf.{turnOf, walkOf, walkedOf, answer}
+use Rattle.findf.specs.Inputs.{inputsOf}
 use Rattle.findf.specs.Lent.{reflectrixFrom}
 use Rattle.findf.specs.declared.walk.Label.{Label}
 use Rattle.findf.proofs.Fills.{angled}

@@ -1,4 +1,4 @@
-use mathlib.Core.Path.{sym, _∙_}
+use mathlib.Core.Path.{refl, sym, _∙_}
 use native.Mathlib.Omega.{arith}
 use borrow.Author.Needs.{needs}
 use Rattle.limits.specs.Limits.{broken}
@@ -27,11 +27,11 @@ array-read-third c = search needs
 
 returns : tie.Need-returns
 unfolding admissionOf admissionBy
-returns c = simp (← c .before .broken-after-k .ensures (c .before .before .before .before .before .before .args .k) (sym (c .before .before .before .before .before .k-within .ensures) ∙ c .before .before .before .before .if1 .taken), c .if2 .taken)
+returns c = simp (← c .before .broken-after-k .ensures (c .before .before .before .before .before .before .args .k) (c .before .before .before .before .before .before .args .fi .now) (sym (c .before .before .before .before .before .k-within .ensures) ∙ c .before .before .before .before .if1 .taken) refl, c .if2 .taken)
 
 returns-2 : tie.Need-returns-2
 unfolding admissionOf
-returns-2 c = simp (← c .before .broken-after-k .ensures (c .before .before .before .before .before .before .args .k) (sym (c .before .before .before .before .before .k-within .ensures) ∙ c .before .before .before .before .if1 .taken)) (refused-by _ _ _ (c .if2 .left))
+returns-2 c = simp (← c .before .broken-after-k .ensures (c .before .before .before .before .before .before .args .k) (c .before .before .before .before .before .before .args .fi .now) (sym (c .before .before .before .before .before .k-within .ensures) ∙ c .before .before .before .before .if1 .taken) refl) (refused-by _ _ _ (c .if2 .left))
 
 returns-3 : tie.Need-returns-3
 unfolding admissionOf admissionBy limitsOf broken

@@ -51,13 +51,13 @@ returns : tie.Need-returns
 unfolding limitsOf
 returns c =
     let numbers = c .before .before .before .before .before .before .before .before in
-    λ k e. kept _ _ _ refl (sym e)
+    λ k fi e q. rw q (kept _ _ _ refl (sym e)
     (kept _ _ _ (c .kept-or6 .ensures) (numbers .before .before .before .before .before .nang-within .ensures)
     (kept _ _ _ (c .before .kept-or5 .ensures) (numbers .before .before .before .before .freq-within .ensures)
     (kept _ _ _ (c .before .before .kept-or4 .ensures) (numbers .before .before .before .amind-within .ensures)
     (kept _ _ _ (c .before .before .before .kept-or3 .ensures) (numbers .fi-within .ensures)
     (kept _ _ _ (c .before .before .before .before .kept-or2 .ensures) (c .before .before .before .before .before .before .before .rows-within .ensures)
-    (kept-last _ _ (c .before .before .before .before .before .kept-or .ensures) (c .before .before .before .before .before .before .entries-within .ensures)))))))
+    (kept-last _ _ (c .before .before .before .before .before .kept-or .ensures) (c .before .before .before .before .before .before .entries-within .ensures))))))))
 
 pub broken-after-k-spec : {M : Type 1} → statement M
 broken-after-k-spec =
