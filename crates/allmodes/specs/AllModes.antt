@@ -5,7 +5,7 @@ use mathlib.Core.List.{List, [], _∷_, foldl}
 use lib.ListN.{length, getD, set, replicate}
 use lib.IntN.{ℤ, pos}
 use lib.Ieee.{Float, nan, neg, lt}
-use Rattle.arith.specs.Floats.{f32}
+use Rattle.arith.specs.Numbers.{0·0, 1·0, 999·0, 99999·0}
 use Rattle.limits.specs.Limits.{slotsWithin, countWithin, refusalSlots, refusalCount}
 use Rattle.allmodes.specs.declared.Zon.{Zon}
 use Rattle.allmodes.specs.declared.AllModes.{AllModes}
@@ -19,7 +19,7 @@ resetOf m =
       crel = m .crel;
       fldst = m .fldst;
       hn = m .hn;
-      hp = replicate 20 (neg (f32 0x3f800000));
+      hp = replicate 20 (neg 1·0);
       prob = m .prob;
       rely = m .rely;
       rgain = m .rgain;
@@ -28,15 +28,15 @@ resetOf m =
       spro = m .spro;
       tgain = m .tgain;
       timed = m .timed;
-      tloss = replicate 20 (f32 0x47c34f80);
+      tloss = replicate 20 99999·0;
       b = m .b;
       fslos = m .fslos;
       grlos = m .grlos;
       adv = m .adv;
       obf = m .obf;
       nmode = m .nmode;
-      tllow = replicate 20 (f32 0x4479c000);
-      tlhgh = replicate 20 (f32 0x4479c000);
+      tllow = replicate 20 999·0;
+      tlhgh = replicate 20 999·0;
       eff = m .eff;
       nrel = m .nrel;
       nmmod = 0;
@@ -83,7 +83,7 @@ addSlot zon m i = putReals zon m i (m .nmmod) (set (m .nmode) (m .nmmod) (getD (
 
 -- line 316: slot i holds a mode where its hp > 0, which NaN is not
 abbrev pub holds : List Float → ℕ → Bool
-holds hp i = lt (f32 0) (getD hp i nan)
+holds hp i = lt 0·0 (getD hp i nan)
 
 -- of n slots from i on, those that hold a mode
 unfoldable pub held : List Float → ℕ → ℕ → List ℕ

@@ -5,7 +5,8 @@ use mathlib.Core.List.{List, [], _∷_}
 use lib.Dec.{leb}
 use lib.ListN.{getD, set, replicate}
 use lib.Ieee.{Float, nan, neg, le}
-use Rattle.arith.specs.Floats.{_⊗_, f32, RZ, absOf}
+use Rattle.arith.specs.Floats.{_⊗_, RZ, absOf}
+use Rattle.arith.specs.Numbers.{0·0, 1·0}
 use Rattle.arith.specs.Run.{Next, more, done, run}
 use Rattle.limits.specs.Limits.{refusalFreq, freqWithin, refusalAmind, amindWithin, refusalGhop, ghopWithin, broken}
 use Rattle.findf.specs.declared.Reflectrix.{Reflectrix}
@@ -46,12 +47,12 @@ pub record Search : Type 0 where
 -- 912 to 917: "Six slots start as 0, height −1, layer 5."
 abbrev pub emptyOf : HopModes
 emptyOf = record {
-  delmod = replicate 6 (f32 0);
-  hpmod = replicate 6 (neg (f32 0x3f80_0000));
-  htmod = replicate 6 (f32 0);
-  fvmod = replicate 6 (f32 0);
+  delmod = replicate 6 0·0;
+  hpmod = replicate 6 (neg 1·0);
+  htmod = replicate 6 0·0;
+  fvmod = replicate 6 0·0;
   itmod = replicate 6 5;
-  afmod = replicate 6 (f32 0);
+  afmod = replicate 6 0·0;
 }
 
 -- 912 to 923: nothing tried
@@ -106,7 +107,7 @@ abbrev pub beyond : ℕ → Bool
 beyond i = leb 44 i
 
 abbrev pub low : Rows → ℕ → Bool
-low t i = le (t .row (i + 1) .hp) (f32 0)
+low t i = le (t .row (i + 1) .hp) 0·0
 
 -- 926 to 1038: one turn, which ends or tries the pair at hand
 unfoldable pub turnBy : Bool → Bool → Rows → Float → Float → Float → Search → Pair → Next Search Searched

@@ -4,12 +4,13 @@ use Prim.Native.Nat.{ℕ, _+_}
 use mathlib.Core.Bool.{Bool, cond}
 use lib.Ieee.{Float, lt, le, eq}
 use Rattle.arith.specs.Floats.{_⊖_, f32, absOf}
+use Rattle.arith.specs.Numbers.{0·001}
 use Rattle.fdist.specs.declared.pairs.Pair.{Pair}
 use Rattle.fdist.specs.declared.pairs.Pair.the-variants.{Nothing, Row, Spot}
 
 -- 963 and 997: within 0.001, as f32 arithmetic has it
 abbrev pub near : Float → Bool
-near x = le (absOf x) (f32 0x3a83_126f)
+near x = le (absOf x) 0·001
 
 -- 996 to 1005: the spot with dth and dth2, or the first row where the two lengths are within 0.001
 unfoldable pub betweenOf : ℕ → Float → Float → Float → Pair

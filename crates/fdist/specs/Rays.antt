@@ -3,7 +3,8 @@ use Prim.Native.Nat.{ℕ, _+_}
 use mathlib.Core.List.{List}
 use lib.ListN.{getD}
 use lib.Ieee.{Float, nan}
-use Rattle.arith.specs.Floats.{_⊕_, _⊖_, _⊗_, _⊘_, f32, RZ, D2R, R2D, PIO2, maxOf}
+use Rattle.arith.specs.Floats.{_⊕_, _⊖_, _⊗_, _⊘_, RZ, D2R, R2D, PIO2, maxOf}
+use Rattle.arith.specs.Numbers.{0·000001, 0·5, 1·0}
 use Rattle.root.specs.Root.{sqrtOf}
 use Rattle.angles.specs.SinCos.{sinOf, cosOf}
 use Rattle.angles.specs.Arctangent.{atanOf}
@@ -30,7 +31,7 @@ towards x y dth dth2 = x ⊕ (y ⊖ x) ⊗ dth ⊘ dth2
 
 -- 1016 to 1020: the take-off angle, in degrees, of a hop that spans twice thet at the height hp
 abbrev angleOf : Float → Float → Float
-angleOf thet hp = (PIO2 ⊖ atanOf (sinOf thet ⊘ (f32 0x3f80_0000 ⊖ cosOf thet ⊕ hp ⊘ RZ)) ⊖ thet) ⊗ R2D
+angleOf thet hp = (PIO2 ⊖ atanOf (sinOf thet ⊘ (1·0 ⊖ cosOf thet ⊕ hp ⊘ RZ)) ⊖ thet) ⊗ R2D
 
 -- 1021: the sine of the angle to the vertical at the true height ht
 abbrev sphiOf : Float → Float → Float
@@ -38,12 +39,12 @@ sphiOf del ht = RZ ⊗ cosOf (del ⊗ D2R) ⊘ (RZ ⊕ ht)
 
 -- 1022 and 1023: the frequency that the layer reflects vertically
 abbrev vertOf : Float → Float → Float
-vertOf freq sphi = freq ⊗ sqrtOf (maxOf (f32 0x3f80_0000 ⊖ sphi ⊗ sphi) (f32 0x3586_37bd))
+vertOf freq sphi = freq ⊗ sqrtOf (maxOf (1·0 ⊖ sphi ⊗ sphi) 0·000001)
 
 -- 1006 to 1025: the spot between rows a and b
 unfoldable pub spotOf : Ray → Ray → Float → Float → Float → Float → Ray
 spotOf a b dth dth2 d freq =
-    let thet = f32 0x3f00_0000 ⊗ d ⊘ RZ in
+    let thet = 0·5 ⊗ d ⊘ RZ in
     let hp = towards (a .hp) (b .hp) dth dth2 in
     let ht = towards (a .ht) (b .ht) dth dth2 in
     let del = angleOf thet hp in

@@ -22,7 +22,7 @@ module _ (second third : Float) where
   refused-by (suc n) h = refl
 
   -- where the job is granted, no limit is broken
-  pub unrefused : (n : ℕ) {fi1 fi2 : Float} → Granted fi1 fi2 ≡ admissionBy n second third → n ≡ 0
+  pub unrefused : (n : ℕ) {x y : Float} → Granted x y ≡ admissionBy n second third → n ≡ 0
   unfolding admissionBy
   unrefused zero e = refl
   unrefused (suc n) e = let z : _≡_ {A = ℕ} 0 1 = cc in absurd (omega arith)
@@ -38,14 +38,14 @@ module _ (r : Reflectrix) (j : Job) where
   unfolding findfOf admissionOf
   refuses = refuses-by (broken (limitsOf j))
 
-  walks-by : (n : ℕ) {a : Admission} {fi1 fi2 : Float} → a ≡ admissionBy n (secondOf j) (thirdOf j) → a ≡ Granted fi1 fi2
-      → startedOf r (j .nang) (j .freq) (j .amind) fi1 fi2 (j .fvert) (j .hprim) (j .htrue) (j .afac) (j .ifob) ≡ findfBy n r j
+  walks-by : (n : ℕ) {a : Admission} {second third : Float} → a ≡ admissionBy n (secondOf j) (thirdOf j) → a ≡ Granted second third
+      → startedOf r (j .nang) (j .freq) (j .amind) second third (j .fvert) (j .hprim) (j .htrue) (j .afac) (j .ifob) ≡ findfBy n r j
   unfolding findfBy admissionBy startedOf
-  walks-by zero {a} {fi1} {fi2} e k = let s : fi1 ≡ secondOf j = cc in let t : fi2 ≡ thirdOf j = cc in rw (s, t)
+  walks-by zero {a} {second} {third} e k = let s : second ≡ secondOf j = cc in let t : third ≡ thirdOf j = cc in rw (s, t)
   walks-by (suc n) e k = let z : _≡_ {A = ℕ} 0 1 = cc in absurd (omega arith)
 
-  pub walks : {a : Admission} {fi1 fi2 : Float} → a ≡ admissionOf j → a ≡ Granted fi1 fi2
-      → startedOf r (j .nang) (j .freq) (j .amind) fi1 fi2 (j .fvert) (j .hprim) (j .htrue) (j .afac) (j .ifob) ≡ findfOf r j
+  pub walks : {a : Admission} {second third : Float} → a ≡ admissionOf j → a ≡ Granted second third
+      → startedOf r (j .nang) (j .freq) (j .amind) second third (j .fvert) (j .hprim) (j .htrue) (j .afac) (j .ifob) ≡ findfOf r j
   unfolding findfOf admissionOf
   walks = walks-by (broken (limitsOf j))
 

@@ -5,17 +5,18 @@ use Prim.Native.Nat.{ℕ}
 use lib.IntN.{ℤ}
 use lib.Ieee.{Float}
 use Rattle.arith.specs.Floats.{f32, _⊗_}
-use Rattle.findf.specs.Penang.{0·0, penangOf}
+use Rattle.arith.specs.Numbers.{0·0}
+use Rattle.findf.specs.Penang.{penangOf}
 use Rattle.findf.specs.Findf.{walkedOf, jfhzOf, unlessOf, begunBy}
 use Rattle.findf.specs.Inputs.{inputsOf}
 use Rattle.findf.specs.Requires.{startedOf}
 use Rattle.findf.specs.declared.penang.Penetration.{Penetration}
 use Rattle.findf.specs.declared.Reflectrix.{Reflectrix}
 
-pub begins : (r : Reflectrix) (nang : ℕ) (freq amind fi1 fi2 : Float) (fvert hprim htrue afac : List Float) (ifob : List ℤ)
-    {j : ℕ} {p : Penetration} {dmaxkm dskpkm : Float} → j ≡ jfhzOf freq → p ≡ penangOf fvert htrue fi1 freq
+pub begins : (r : Reflectrix) (nang : ℕ) (freq amind second third : Float) (fvert hprim htrue afac : List Float) (ifob : List ℤ)
+    {j : ℕ} {p : Penetration} {dmaxkm dskpkm : Float} → j ≡ jfhzOf freq → p ≡ penangOf fvert htrue second freq
     → dmaxkm ≡ unlessOf (p .dead) 0·0 → dskpkm ≡ unlessOf (p .dead) (f32 0x461c_4000)
-    → walkedOf (inputsOf nang freq amind j fi1 (fi2 ⊗ fi2) (p .delpen) fvert hprim htrue afac ifob) (begunBy r (p .delpen) dmaxkm dskpkm)
-    ≡ startedOf r nang freq amind fi1 fi2 fvert hprim htrue afac ifob
+    → walkedOf (inputsOf nang freq amind j second (third ⊗ third) (p .delpen) fvert hprim htrue afac ifob) (begunBy r (p .delpen) dmaxkm dskpkm)
+    ≡ startedOf r nang freq amind second third fvert hprim htrue afac ifob
 unfolding startedOf
-begins r nang freq amind fi1 fi2 fvert hprim htrue afac ifob j p m d = rw (j, m, d, p)
+begins r nang freq amind second third fvert hprim htrue afac ifob j p m d = rw (j, m, d, p)

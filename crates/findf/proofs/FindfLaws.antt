@@ -11,12 +11,12 @@ use native.Mathlib.Omega.{arith}
 use lib.ListN.{getD}
 use lib.Ieee.{nan}
 use borrow.Author.Tests.{leb-true}
+use Rattle.arith.specs.Numbers.{0·0}
 use Rattle.arith.specs.Run.{count, iterate}
 use Rattle.limits.specs.Limits.{broken}
 use Rattle.limits.proofs.LimitsLaws.{unbroken}
-use Rattle.findf.specs.Penang.{0·0}
 use Rattle.findf.specs.Walk.{start}
-use Rattle.findf.specs.Findf.{State, stepOf, turnOf, walkOf, walkedOf, anglesOf, limitsOf, findfBy, findfOf}
+use Rattle.findf.specs.Findf.{State, stepOf, turnOf, walkOf, walkedOf, anglesOf, limitsOf, findfBy, findfOf, walkSteps}
 use Rattle.findf.specs.Inputs.{Job, Inputs}
 use Rattle.findf.specs.Demand as demand
 use Rattle.findf.specs.Demand.{lookTurns, rowsDue, rowAt, RowIs}
@@ -53,7 +53,7 @@ module _ (r : Reflectrix) (j : Job) where
   look-number n = looks-iterate read n (start, first) ∙ zero-add _
 
   module _ (ok : Accepted) where
-    nang-cap : j .nang ≤ 40
+    pub nang-cap : j .nang ≤ 40
     unfolding limitsOf
     nang-cap = leb-true (j .nang) 40 (unbroken _ _ _ (unbroken _ _ _ ok .1) .0)
 
@@ -65,8 +65,8 @@ module _ (r : Reflectrix) (j : Job) where
     -- the reflectrix counts its rows as the walk does
     pub rows-counted : walkOf read first .1 .«rows_this_call» ≡ walkOf read first .0 .rows
     rows-counted =
-        subst (λ (s : State). s .1 .«rows_this_call» ≡ s .0 .rows) (sym (walk-iterate read nang-cap first 430 (omega arith)))
-        (beyond-zero read first (begun-beyond r (anglesOf j)) 430 .counted)
+        subst (λ (s : State). s .1 .«rows_this_call» ≡ s .0 .rows) (sym (walk-iterate read nang-cap first walkSteps (omega arith)))
+        (beyond-zero read first (begun-beyond r (anglesOf j)) walkSteps .counted)
 
     -- "looks ≤ nang + 28" and "rows ≤ nang + 4"
     pub looks-few : answerOf .looks ≤ j .nang + 28
@@ -78,11 +78,11 @@ module _ (r : Reflectrix) (j : Job) where
     rows-few = rw findf-walks (omega (arith, rows-counted, walk-few read nang-cap first .1))
 
     -- looks are the turns of the inner loop, rows the steps that write one
-    pub looks-turns : answerOf .looks ≡ count (turnOf read) (lookTurns read) 430 (start, first)
+    pub looks-turns : answerOf .looks ≡ count (turnOf read) (lookTurns read) walkSteps (start, first)
     unfolding walkedOf
     looks-turns = rw findf-walks (walk-looks read nang-cap first)
 
-    pub rows-steps : answerOf .rfx .«rows_this_call» ≡ count (turnOf read) rowsDue 430 (start, first)
+    pub rows-steps : answerOf .rfx .«rows_this_call» ≡ count (turnOf read) rowsDue walkSteps (start, first)
     unfolding walkedOf
     rows-steps = rw findf-walks (rows-counted ∙ walk-rows read nang-cap first)
 
@@ -93,14 +93,14 @@ module _ (r : Reflectrix) (j : Job) where
     row-written z n fill l =
         let s = stateAt n in
         rw findf-walks
-        (subst (λ (t : State). RowIs (s .0 .rows) (rowAt read fill (s .0) (s .1)) (t .1)) (walk-resumes read nang-cap first n 431 (omega arith))
-        (filled-stays read s fill l (sized-throughout read first (begun-sized r (anglesOf j) z) n) (omega (arith, fill-few read nang-cap first n fill l, nang-cap)) 430))
+        (subst (λ (t : State). RowIs (s .0 .rows) (rowAt read fill (s .0) (s .1)) (t .1)) (walk-resumes read nang-cap first n (suc walkSteps) (omega arith))
+        (filled-stays read s fill l (sized-throughout read first (begun-sized r (anglesOf j) z) n) (omega (arith, fill-few read nang-cap first n fill l, nang-cap)) walkSteps))
 
     -- heights are +0 from the first row that is not written on
     pub answer-beyond : (i : ℕ) → answerOf .rfx .«rows_this_call» ≤ i → i < 45 → getD (answerOf .rfx .hpflx) i nan ≡ 0·0
     unfolding walkedOf
     answer-beyond i h l =
-        let b : Beyond (walkOf read first) = subst Beyond (sym (walk-iterate read nang-cap first 430 (omega arith))) (beyond-zero read first (begun-beyond r (anglesOf j)) 430) in
+        let b : Beyond (walkOf read first) = subst Beyond (sym (walk-iterate read nang-cap first walkSteps (omega arith))) (beyond-zero read first (begun-beyond r (anglesOf j)) walkSteps) in
         rw findf-walks (b .zero-hp i (omega (arith, rows-counted, rw findf-walks at h)) l)
 
     -- columns of 45 rows stay so
@@ -108,7 +108,7 @@ module _ (r : Reflectrix) (j : Job) where
     unfolding walkedOf
     answer-sized z =
         rw findf-walks
-        (subst (λ (s : State). Sized (s .1)) (sym (walk-iterate read nang-cap first 430 (omega arith))) (sized-throughout read first (begun-sized r (anglesOf j) z) 430))
+        (subst (λ (s : State). Sized (s .1)) (sym (walk-iterate read nang-cap first walkSteps (omega arith))) (sized-throughout read first (begun-sized r (anglesOf j) z) walkSteps))
 
   -- ---- the answer's number, and what a refusal leaves
   refusal-by : (n : ℕ) → findfBy n r j .refusal ≡ n

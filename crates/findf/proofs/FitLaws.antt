@@ -10,18 +10,17 @@ use lib.IntN.{ℤ}
 use lib.Ieee.{Float, nan, inf, fin, binary32, fits, neg, lt, le}
 use lib.Ieee.Bits.{ofBits-fits}
 use lib.Ieee.Fits.{nan-fits, inf-fits, neg-fits, add-fits, mul-fits, div-fits}
-use borrow.Author.Tests.{leb-true}
 use Rattle.arith.specs.Floats.{f32, _⊕_, _⊖_, _⊗_, _⊘_, RZ, R2D, absOf}
+use Rattle.arith.specs.Numbers.{0·0, 0·0001, 0·9999, 0·999999, 1·0, 89·9, 90·0}
 use Rattle.arith.specs.Run.{iterate}
 use Rattle.arith.proofs.RunLaws.{iterate-keeps}
 use Rattle.limits.specs.Limits.{broken}
-use Rattle.limits.proofs.LimitsLaws.{unbroken}
 use Rattle.root.specs.Root.{sqrtOf}
 use Rattle.angles.specs.Arccosine.{acosOf}
-use Rattle.findf.specs.Penang.{0·0, 1·0, 0·0001, 0·9999, 0·999999, 89·9, 90·0, fratOf, angleOf, cuspOf, xmOf, cdelOf, penetration, topOf, f2Of, f1Of, penangOf}
+use Rattle.findf.specs.Penang.{fratOf, angleOf, cuspOf, xmOf, cdelOf, penetration, topOf, f2Of, f1Of, penangOf}
 use Rattle.findf.specs.Walk.{ANG, angOf, start, searchBy, searchOf, nextLayerBy, nextLayerOf, nextCuspBy, nextCuspOf, filledBy, filledOf}
 use Rattle.findf.specs.Rows.{rawOf, nextModeOf, modeOf, highOf, correctedOf, rowOf}
-use Rattle.findf.specs.Findf.{State, fillOf, stepBy, stepOf, begun, walkOf, walkedOf, limitsOf, anglesOf, findfOf}
+use Rattle.findf.specs.Findf.{State, fillOf, stepBy, stepOf, begun, walkOf, walkedOf, limitsOf, anglesOf, findfOf, walkSteps}
 use Rattle.findf.specs.Inputs.{Job, secondOf, Inputs}
 use Rattle.findf.proofs.StepLaws.{walk-iterate}
 use Rattle.findf.specs.Demand as demand
@@ -145,24 +144,24 @@ module _ (e f1 : Float) (a : Single e) (b : Single f1) where
       let c = cdelOf (xmOf (getD fvert 27 nan) (getD htrue 27 nan) freq) (xmOf (getD fvert 28 nan) (getD htrue 28 nan) freq) (xmOf (getD fvert 29 nan) (getD htrue 29 nan) freq) in
       either Angled (le 0·0 ((getD fvert 29 nan ⊖ freq) ⊕ 0·0001)) (penetration e f1 89·9 false) (topOf e f1 c) (three e f1 89·9 false a b (single-bits 0x42b3_cccd)) (top-angled c)
 
-f1-angled : (fvert htrue : List Float) (fi1 freq e : Float) → Single e → Angled (f1Of fvert htrue fi1 freq e)
+f1-angled : (fvert htrue : List Float) (second freq e : Float) → Single e → Angled (f1Of fvert htrue second freq e)
 unfolding f1Of
-f1-angled fvert htrue fi1 freq e a =
+f1-angled fvert htrue second freq e a =
     let f = fratOf (getD fvert 19 nan) freq in
     let c = cuspOf (getD htrue 19 nan) f in
-    either Angled (lt 0·0 fi1) (cond (le 0·9999 f) (penetration e 89·9 90·0 false) (f2Of fvert htrue freq e c)) (f2Of fvert htrue freq e e)
+    either Angled (lt 0·0 second) (cond (le 0·9999 f) (penetration e 89·9 90·0 false) (f2Of fvert htrue freq e c)) (f2Of fvert htrue freq e e)
     (either Angled (le 0·9999 f) (penetration e 89·9 90·0 false) (f2Of fvert htrue freq e c) (three e 89·9 90·0 false a (single-bits 0x42b3_cccd) (single-bits 0x42b4_0000))
     (f2-angled e c a (cusp-single (getD htrue 19 nan) f) fvert htrue freq))
     (f2-angled e e a a fvert htrue freq)
 
-penang-angled : (fvert htrue : List Float) (fi1 freq : Float) → Angled (penangOf fvert htrue fi1 freq)
+penang-angled : (fvert htrue : List Float) (second freq : Float) → Angled (penangOf fvert htrue second freq)
 unfolding penangOf
-penang-angled fvert htrue fi1 freq =
+penang-angled fvert htrue second freq =
     let f = fratOf (getD fvert 9 nan) freq in
     let c = cuspOf (getD htrue 9 nan) f in
-    either Angled (le 0·9999 f) (penetration 89·9 90·0 90·0 false) (f1Of fvert htrue fi1 freq c)
+    either Angled (le 0·9999 f) (penetration 89·9 90·0 90·0 false) (f1Of fvert htrue second freq c)
     (three 89·9 90·0 90·0 false (single-bits 0x42b3_cccd) (single-bits 0x42b4_0000) (single-bits 0x42b4_0000))
-    (f1-angled fvert htrue fi1 freq c (cusp-single (getD htrue 9 nan) f))
+    (f1-angled fvert htrue second freq c (cusp-single (getD htrue 9 nan) f))
 
 -- ---- the columns
 pub record Fitting (r : Reflectrix) : Type 0 where
@@ -187,9 +186,9 @@ record Whole (t : Row) : Type 0 where
   whole-af : Single (t .af)
   whole-mode : t .mode ≤ 4
 
-next-mode : (il : ℕ) (fi1 : Float) → il ≤ 3 → nextModeOf il fi1 ≤ 4
+next-mode : (il : ℕ) (second : Float) → il ≤ 3 → nextModeOf il second ≤ 4
 unfolding nextModeOf
-next-mode il fi1 h = either (λ (n : ℕ). n ≤ 4) (le fi1 0·0) 3 (il + 1) (omega arith) (omega arith)
+next-mode il second h = either (λ (n : ℕ). n ≤ 4) (le second 0·0) 3 (il + 1) (omega arith) (omega arith)
 
 module _ (e : Inputs) (ok : Read e) (w : Walk) (r : Reflectrix) (l : w .il ≤ 3) (was : Fitting r) where
   row-whole : (fill : F.Fill) → Whole (rowAt e fill w r)
@@ -224,7 +223,7 @@ module _ (e : Inputs) (ok : Read e) (w : Walk) (r : Reflectrix) (l : w .il ≤ 3
     whole-ht = ok .htrue-read .each _;
     whole-fv = ok .fvert-read .each _;
     whole-af = ok .afac-read .each _;
-    whole-mode = next-mode (w .il) (e .fi1) l;
+    whole-mode = next-mode (w .il) (e .second) l;
   }
 
   fill-fits : (fill : F.Fill) → Fitting (fillOf e fill w r)
@@ -293,11 +292,11 @@ module _ (r : Reflectrix) (j : Job) where
   -- an accepted walk on such columns and tables leaves such columns
   pub walked-fits : laws.Accepted r j → Singles (j .fvert) → Singles (j .htrue) → Singles (j .afac) → Fitting r
       → Fitting (findfOf r j .rfx)
-  unfolding walkedOf limitsOf
+  unfolding walkedOf
   walked-fits ok a b c was =
       let e = demand.read j in
       let first = demand.first r j in
-      let few : j .nang ≤ 40 = leb-true (j .nang) 40 (unbroken _ _ _ (unbroken _ _ _ ok .1) .0) in
+      let few = laws.nang-cap r j ok in
       let read : Read e = record { fvert-read = a; htrue-read = b; afac-read = c; delpen-read = penang-angled (j .fvert) (j .htrue) (secondOf j) (j .freq) .angles } in
-      let all = iterate-keeps (stepOf e) Kept (kept-step e read) 430 (start, first) (record { low = omega arith; fit = begun-fits r (anglesOf j) was }) in
-      rw (laws.findf-walks r j ok) (subst (λ (s : State). Fitting (s .1)) (sym (walk-iterate e few first 430 (omega arith))) (all .fit))
+      let all = iterate-keeps (stepOf e) Kept (kept-step e read) walkSteps (start, first) (record { low = omega arith; fit = begun-fits r (anglesOf j) was }) in
+      rw (laws.findf-walks r j ok) (subst (λ (s : State). Fitting (s .1)) (sym (walk-iterate e few first walkSteps (omega arith))) (all .fit))

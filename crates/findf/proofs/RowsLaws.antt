@@ -14,10 +14,10 @@ use borrow.Author.Tests.{leb-true, leb-false}
 use lib.ListN.{getD, length, length-set, length-replicate, getD-replicate}
 use lib.Seq.{getD-set-same, getD-set-other}
 use lib.Ieee.{Float, nan, ofBits, neg, lt, le, eq}
+use Rattle.arith.specs.Numbers.{0·0}
 use Rattle.arith.proofs.Order.{le-number, le-trans}
 use Rattle.arith.specs.Run.{iterate}
 use Rattle.arith.proofs.RunLaws.{iterate-keeps}
-use Rattle.findf.specs.Penang.{0·0}
 use Rattle.findf.specs.Walk.{start}
 use Rattle.findf.specs.Demand.{due, rowAt, RowIs}
 use Rattle.findf.specs.Rows.{farOf}

@@ -16,12 +16,11 @@ use borrow.Author.Tests.{lt-leb}
 use Rattle.arith.specs.Floats.{_⊖_}
 use Rattle.arith.specs.Run.{rest, run, count, iterate, until, stopBy}
 use Rattle.arith.proofs.RunLaws.{Lessens, Raised, Kept, run-same, run-keeps, run-counts, run-iterate, iterate-add, iterate-fixed, iterate-keeps}
-use Rattle.findf.specs.Penang.{0·0}
 use Rattle.findf.proofs.LookLaws.{looks-are-turns}
-use Rattle.findf.specs.Walk.{89·99, angOf, searchBy, searchOf, nextLayerBy, nextLayerOf, nextCuspBy, nextCuspOf, filledBy, filledOf, withLabel, doneAt, start}
+use Rattle.findf.specs.Walk.{angOf, searchBy, searchOf, nextLayerBy, nextLayerOf, nextCuspBy, nextCuspOf, filledBy, filledOf, withLabel, doneAt, start}
 use Rattle.findf.specs.Demand.{turnsFrom, turnsBy, turnsAt, lookTurns, due, rowsDue}
 use Rattle.findf.proofs.WalkLaws.{Good, μ, step-fine, few-looks, few-rows, good-start}
-use Rattle.findf.specs.Findf.{State, stepBy, stepOf, turnOf, walkOf}
+use Rattle.findf.specs.Findf.{State, stepBy, stepOf, turnOf, walkOf, walkSteps}
 use Rattle.findf.specs.Inputs.{Inputs}
 use Rattle.findf.specs.declared.look.Looked.{Looked}
 use Rattle.findf.specs.declared.walk.Walk.{Walk}
@@ -190,17 +189,17 @@ module _ (e : Inputs) where
     reached-start = good-start (e .nang) nang-cap
 
     -- the same for every fuel at or above the measure and every default
-    pub walk-same : (d : State) (n : ℕ) → 430 ≤ n → run (turnOf e) d n (start, r) ≡ walkOf e r
+    pub walk-same : (d : State) (n : ℕ) → walkSteps ≤ n → run (turnOf e) d n (start, r) ≡ walkOf e r
     unfolding walkOf
-    walk-same d n h = run-same (turnOf e) Reached left turn-less left-pos d (start, r) n 430 (start, r) reached-start h (omega arith)
+    walk-same d n h = run-same (turnOf e) Reached left turn-less left-pos d (start, r) n walkSteps (start, r) reached-start h (omega arith)
 
     -- the step iterated
-    pub walk-iterate : (n : ℕ) → 430 ≤ n → walkOf e r ≡ iterate n (stepOf e) (start, r)
+    pub walk-iterate : (n : ℕ) → walkSteps ≤ n → walkOf e r ≡ iterate n (stepOf e) (start, r)
     walk-iterate n h =
         sym (walk-same (start, r) n h) ∙ run-iterate stopsAt (stepOf e) (done-fixed e) Reached left turn-less left-pos (start, r) n (start, r) reached-start h
 
     -- m steps first, and then the rest
-    pub walk-resumes : (m n : ℕ) → 430 ≤ n → iterate n (stepOf e) (iterate m (stepOf e) (start, r)) ≡ walkOf e r
+    pub walk-resumes : (m n : ℕ) → walkSteps ≤ n → iterate n (stepOf e) (iterate m (stepOf e) (start, r)) ≡ walkOf e r
     walk-resumes m n h = sym (walk-iterate (m + n) (omega arith) ∙ iterate-add (stepOf e) m n (start, r))
 
     -- every state from the start on
@@ -208,7 +207,7 @@ module _ (e : Inputs) where
     reached n = iterate-keeps (stepOf e) Reached reaches n (start, r) reached-start
 
     pub walk-reached : Reached (walkOf e r)
-    walk-reached = subst Reached (sym (walk-iterate 430 (omega arith))) (reached 430)
+    walk-reached = subst Reached (sym (walk-iterate walkSteps (omega arith))) (reached walkSteps)
 
     -- "looks ≤ nang + 28", "rows ≤ nang + 4"
     pub walk-few : (walkOf e r .0 .looks ≤ e .nang + 28) × (walkOf e r .0 .rows ≤ e .nang + 4)
@@ -225,15 +224,15 @@ module _ (e : Inputs) where
     -- it ends at Done, not for want of fuel
     pub walk-done : stopsAt (walkOf e r) ≡ true
     walk-done =
-        subst (λ (s : State). stopsAt s ≡ true) (walk-same (withLabel start Done, r) 430 (omega arith))
-        (run-keeps (turnOf e) (withLabel start Done, r) (λ (t : State). Unit {0}) (λ (t : State). stopsAt t ≡ true) turn-stops refl 430 (start, r) tt)
+        subst (λ (s : State). stopsAt s ≡ true) (walk-same (withLabel start Done, r) walkSteps (omega arith))
+        (run-keeps (turnOf e) (withLabel start Done, r) (λ (t : State). Unit {0}) (λ (t : State). stopsAt t ≡ true) turn-stops refl walkSteps (start, r) tt)
 
     -- looks are the turns of the inner loop, and rows the steps that write one
-    pub walk-looks : walkOf e r .0 .looks ≡ count (turnOf e) (lookTurns e) 430 (start, r)
+    pub walk-looks : walkOf e r .0 .looks ≡ count (turnOf e) (lookTurns e) walkSteps (start, r)
     unfolding walkOf
     walk-looks =
-        run-counts (turnOf e) Reached left turn-less left-pos (lookTurns e) looksOfState looksOfState looks-raise (start, r) 430 (start, r) reached-start (omega arith)
+        run-counts (turnOf e) Reached left turn-less left-pos (lookTurns e) looksOfState looksOfState looks-raise (start, r) walkSteps (start, r) reached-start (omega arith)
         ∙ zero-add _
 
-    pub walk-rows : walkOf e r .0 .rows ≡ count (turnOf e) rowsDue 430 (start, r)
-    walk-rows = ap (λ (s : State). s .0 .rows) (walk-iterate 430 (omega arith)) ∙ rows-iterate 430 (start, r) ∙ zero-add _
+    pub walk-rows : walkOf e r .0 .rows ≡ count (turnOf e) rowsDue walkSteps (start, r)
+    walk-rows = ap (λ (s : State). s .0 .rows) (walk-iterate walkSteps (omega arith)) ∙ rows-iterate walkSteps (start, r) ∙ zero-add _

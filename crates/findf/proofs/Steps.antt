@@ -27,7 +27,7 @@ module _ (e : Inputs) (w : Walk) (r : Reflectrix) where
   unfolding stepBy
   searches p v = turns Search p refl (simp (← v))
 
-  pub next-layers : {v : Walk} → w .label ≡ NextLayer → v ≡ nextLayerOf (e .fi1) w → turnOf e (w, r) ≡ more (v, r)
+  pub next-layers : {v : Walk} → w .label ≡ NextLayer → v ≡ nextLayerOf (e .second) w → turnOf e (w, r) ≡ more (v, r)
   unfolding stepBy
   next-layers p v = turns NextLayer p refl (simp (← v))
 
@@ -39,7 +39,7 @@ module _ (e : Inputs) (w : Walk) (r : Reflectrix) where
   abbrev Filled : F.Fill → Filling → Type 0
   Filled fill q =
       (q .raw ≡ rawOf (e .fvert) (e .hprim) (e .htrue) (e .afac) (e .ifob) (e .delpen) (r .delfx) (e .jfhz) fill w)
-      × ((q .mode ≡ modeOf fill (w .il) (e .fi1)) × ((q .back ≡ backOf fill) × (q .after ≡ afterOf fill)))
+      × ((q .mode ≡ modeOf fill (w .il) (e .second)) × ((q .back ≡ backOf fill) × (q .after ≡ afterOf fill)))
 
   row-is : (fill : F.Fill) {q : Filling} {m : Corrected} {t : Row} → Filled fill q → m ≡ correctionOf (e .freq) (e .fc2) (q .raw)
       → t ≡ rowBy (q .raw) m (q .mode)

@@ -152,9 +152,9 @@ module _ (nang : ℕ) (w : Walk) where
   search-fine ifob delpen jfhz g =
       fine-search _ _ _ _ _ (leb-false nang (w .ia)) (looks-leave ifob jfhz (w .ia * 30) (w .ilow) (w .ihigh) (w .ih) (w .looks) (omega arith)) g
 
-  pub next-layer-fine : (fi1 : Float) → Bounds nang NextLayer w → Fine nang NextLayer w (nextLayerOf fi1 w)
+  pub next-layer-fine : (second : Float) → Bounds nang NextLayer w → Fine nang NextLayer w (nextLayerOf second w)
   unfolding nextLayerOf
-  next-layer-fine fi1 g = fine-next-layer _ _ _ (eqb-true (w .il) 1) (eqb-true (w .il) 2) g
+  next-layer-fine second g = fine-next-layer _ _ _ (eqb-true (w .il) 1) (eqb-true (w .il) 2) g
 
   pub next-cusp-fine : (delpen : List Float) → Bounds nang NextCusp w → Fine nang NextCusp w (nextCuspOf delpen w)
   unfolding nextCuspOf
@@ -173,7 +173,7 @@ steps-fine {nang} {l} {w} {v} {v'} p g q f =
 pub step-fine : (e : Inputs) (l : Label) (w : Walk) (r : Reflectrix) → doneAt l ≡ false → Bounds (e .nang) l w → Fine (e .nang) l w (stepBy e l w r .0)
 unfolding stepBy
 step-fine e Search w r d g = search-fine (e .nang) w (e .ifob) (e .delpen) (e .jfhz) g
-step-fine e NextLayer w r d g = next-layer-fine (e .nang) w (e .fi1) g
+step-fine e NextLayer w r d g = next-layer-fine (e .nang) w (e .second) g
 step-fine e NextCusp w r d g = next-cusp-fine (e .nang) w (e .delpen) g
 step-fine e (Fill fill) w r d g = filled-fine (e .nang) w fill g
 step-fine e Done w r d g = let z : _≡_ {A = ℕ} 0 1 = cc in absurd (omega arith)

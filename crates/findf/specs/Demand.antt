@@ -9,11 +9,11 @@ use lib.ListN.{getD}
 use lib.IntN.{ℤ}
 use lib.Ieee.{Float, nan, lt, le}
 use Rattle.arith.specs.Floats.{_⊖_}
+use Rattle.arith.specs.Numbers.{0·0, 89·99}
 use Rattle.arith.specs.Run.{count, iterate}
 use Rattle.findf.specs.Inputs.{Job, Inputs}
-use Rattle.findf.specs.Penang.{0·0}
 use Rattle.findf.specs.Look.{lookOf}
-use Rattle.findf.specs.Walk.{89·99, angOf, start}
+use Rattle.findf.specs.Walk.{angOf, start}
 use Rattle.findf.specs.Rows.{rowOf}
 use Rattle.findf.specs.Findf.{State, stepOf, begun, readBy, anglesOf}
 use Rattle.findf.specs.declared.walk.Walk.{Walk}

@@ -6,10 +6,11 @@ use mathlib.Core.List.{List, [], _∷_}
 use lib.ListN.{getD, replicate}
 use lib.IntN.{ℤ}
 use lib.Ieee.{Float, nan, toUnsigned, neg}
-use Rattle.arith.specs.Floats.{f32, _⊗_}
+use Rattle.arith.specs.Floats.{_⊗_}
+use Rattle.arith.specs.Numbers.{0·0, 1·0, 1000·0, 10000·0}
 use Rattle.arith.specs.Run.{Next, run, until}
 use Rattle.limits.specs.Limits.{entriesWithin, broken, refusalK, kWithin, refusalNang, nangWithin, refusalFreq, freqWithin, refusalAmind, amindWithin, refusalFi, fiWithin, refusalTable, refusalIfob}
-use Rattle.findf.specs.Penang.{0·0, 1·0, penangOf}
+use Rattle.findf.specs.Penang.{penangOf}
 use Rattle.findf.specs.Walk.{searchOf, nextLayerOf, nextCuspOf, filledOf, doneAt, start}
 use Rattle.findf.specs.Inputs.{Job, secondOf, thirdOf, Inputs, inputsOf}
 use Rattle.findf.specs.Rows.{rowOf, putRow}
@@ -36,7 +37,7 @@ fillOf e fill w r =
 -- One step is one turn of the Rust's label loop with its looks (lines 725 to 903). Done is a fixed point: the turn that finds Done is no step.
 unfoldable pub stepBy : Inputs → Label → Walk → Reflectrix → State
 stepBy e Search w r = (searchOf (e .ifob) (e .delpen) (e .jfhz) (e .nang) w, r)
-stepBy e NextLayer w r = (nextLayerOf (e .fi1) w, r)
+stepBy e NextLayer w r = (nextLayerOf (e .second) w, r)
 stepBy e NextCusp w r = (nextCuspOf (e .delpen) w, r)
 stepBy e (Fill fill) w r = (filledOf fill w, fillOf e fill w r)
 stepBy e Done w r = (w, r)
@@ -49,10 +50,13 @@ stepOf e s = stepBy e (s .0 .label) (s .0) (s .1)
 abbrev pub turnOf : Inputs → State → Next State State
 turnOf e = until (λ s. doneAt (s .0 .label)) (stepOf e)
 
--- The steps from the start until Done, 430 at most, which no walk takes: more of them, or another answer for want of them, would change nothing
--- (StepLaws, `walk-same`; `walk-iterate`: it is the step iterated).
+-- more steps than any walk takes: still more of them, or another answer for want of them, would change nothing (StepLaws, `walk-same`)
+abbrev pub walkSteps : ℕ
+walkSteps = 430
+
+-- the steps from the start until Done (StepLaws, `walk-iterate`: it is the step iterated)
 unfoldable pub walkOf : Inputs → Reflectrix → State
-walkOf e r = run (turnOf e) (start, r) 430 (start, r)
+walkOf e r = run (turnOf e) (start, r) walkSteps (start, r)
 
 -- no refusal, the looks, and the reflectrix as the walk leaves it
 abbrev pub answer : State → Walked
@@ -61,9 +65,9 @@ answer s = record { refusal = 0; looks = s .0 .looks; rfx = s .1 }
 unfoldable pub walkedOf : Inputs → Reflectrix → Walked
 walkedOf e r = answer (walkOf e r)
 
--- "jfhz is 1000 × freq cut towards zero" (line 683); 1000.0 by its bits
+-- "jfhz is 1000 × freq cut towards zero" (line 683)
 unfoldable pub jfhzOf : Float → ℕ
-jfhzOf freq = toUnsigned 64 (f32 0x447a_0000 ⊗ freq)
+jfhzOf freq = toUnsigned 64 (1000·0 ⊗ freq)
 
 -- −1 where penang says so (lines 665 to 666)
 abbrev pub unlessOf : Bool → Float → Float
@@ -98,9 +102,9 @@ begunBy r delpen dmaxkm dskpkm =
     }
 
 -- lines 684 to 696: "It first sets dmaxkm 0, dskpkm 10000, and hpflx, delfx, gdflx to 0 in all 45 rows; every other field keeps its old contents
--- until written", and the row count to 0; then penang (10000.0 by its bits)
+-- until written", and the row count to 0; then penang
 abbrev pub begun : Reflectrix → Penetration → Reflectrix
-begun r p = begunBy r (p .delpen) (unlessOf (p .dead) 0·0) (unlessOf (p .dead) (f32 0x461c_4000))
+begun r p = begunBy r (p .delpen) (unlessOf (p .dead) 0·0) (unlessOf (p .dead) 10000·0)
 
 -- what an accepted job's walk reads: fc2 is the square of fi's third number (line 692)
 abbrev pub readBy : Job → Penetration → Inputs

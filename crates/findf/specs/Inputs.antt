@@ -38,7 +38,7 @@ pub record Inputs : Type 0 where
   pub freq : Float
   pub amind : Float
   pub jfhz : ℕ
-  pub fi1 : Float
+  pub second : Float
   pub fc2 : Float
   pub delpen : List Float
   pub fvert : List Float
@@ -48,13 +48,13 @@ pub record Inputs : Type 0 where
   pub ifob : List ℤ
 
 abbrev pub inputsOf : ℕ → Float → Float → ℕ → Float → Float → List Float → List Float → List Float → List Float → List Float → List ℤ → Inputs
-inputsOf nang freq amind jfhz fi1 fc2 delpen fvert hprim htrue afac ifob =
+inputsOf nang freq amind jfhz second fc2 delpen fvert hprim htrue afac ifob =
     record {
       nang = nang;
       freq = freq;
       amind = amind;
       jfhz = jfhz;
-      fi1 = fi1;
+      second = second;
       fc2 = fc2;
       delpen = delpen;
       fvert = fvert;

@@ -4,32 +4,11 @@ use mathlib.Core.Bool.{Bool, true, false, cond}
 use mathlib.Core.List.{List, [], _∷_}
 use lib.ListN.{getD}
 use lib.Ieee.{Float, nan, lt, le}
-use Rattle.arith.specs.Floats.{f32, _⊕_, _⊖_, _⊗_, _⊘_, RZ, R2D}
+use Rattle.arith.specs.Floats.{_⊕_, _⊖_, _⊗_, _⊘_, RZ, R2D}
+use Rattle.arith.specs.Numbers.{0·0, 0·0001, 0·9999, 0·999999, 1·0, 89·9, 90·0}
 use Rattle.root.specs.Root.{sqrtOf}
 use Rattle.angles.specs.Arccosine.{acosOf}
 use Rattle.findf.specs.declared.penang.Penetration.{Penetration}
-
--- the constants of the source, by their bits
-abbrev pub 0·0 : Float
-0·0 = f32 0
-
-abbrev pub 1·0 : Float
-1·0 = f32 0x3f80_0000
-
-abbrev pub 0·0001 : Float
-0·0001 = f32 0x38d1_b717
-
-abbrev pub 0·9999 : Float
-0·9999 = f32 0x3f7f_f972
-
-abbrev pub 0·999999 : Float
-0·999999 = f32 0x3f7f_ffef
-
-abbrev pub 89·9 : Float
-89·9 = f32 0x42b3_cccd
-
-abbrev pub 90·0 : Float
-90·0 = f32 0x42b4_0000
 
 -- "the squared ratio fvert/freq" (lines 609 to 610)
 unfoldable pub fratOf : Float → Float → Float
@@ -71,14 +50,14 @@ f2Of fvert htrue freq e f1 =
 
 -- "F1 does so with row 20 if fi of the point, second number, is above 0 (≥ 0.9999: 89.9, and F2 90, end); else it copies E's" (lines 621 to 640)
 unfoldable pub f1Of : List Float → List Float → Float → Float → Float → Penetration
-f1Of fvert htrue fi1 freq e =
-    cond (lt 0·0 fi1)
+f1Of fvert htrue second freq e =
+    cond (lt 0·0 second)
     (cond (le 0·9999 (fratOf (getD fvert 19 nan) freq)) (penetration e 89·9 90·0 false)
     (f2Of fvert htrue freq e (cuspOf (getD htrue 19 nan) (fratOf (getD fvert 19 nan) freq))))
     (f2Of fvert htrue freq e e)
 
 -- "E uses row 10. If the squared ratio fvert/freq is ≥ 0.9999 the three angles are 89.9, 90, 90 and it ends" (lines 606 to 620)
 unfoldable pub penangOf : List Float → List Float → Float → Float → Penetration
-penangOf fvert htrue fi1 freq =
+penangOf fvert htrue second freq =
     cond (le 0·9999 (fratOf (getD fvert 9 nan) freq)) (penetration 89·9 90·0 90·0 false)
-    (f1Of fvert htrue fi1 freq (cuspOf (getD htrue 9 nan) (fratOf (getD fvert 9 nan) freq)))
+    (f1Of fvert htrue second freq (cuspOf (getD htrue 9 nan) (fratOf (getD fvert 9 nan) freq)))

@@ -88,6 +88,6 @@ Foreseen a = (1 ≤ a .ia) × (a .rcosd ≡ rcosdOf (angOf (a .ia - 1) ⊗ D2R))
 
 -- ---- the walk from its start on, with the two numbers of the point that the checks granted
 unfoldable pub startedOf : Reflectrix → ℕ → Float → Float → Float → Float → List Float → List Float → List Float → List Float → List ℤ → Walked
-startedOf r nang freq amind fi1 fi2 fvert hprim htrue afac ifob =
-    let p = penangOf fvert htrue fi1 freq in
-    walkedOf (inputsOf nang freq amind (jfhzOf freq) fi1 (fi2 ⊗ fi2) (p .delpen) fvert hprim htrue afac ifob) (begun r p)
+startedOf r nang freq amind second third fvert hprim htrue afac ifob =
+    let p = penangOf fvert htrue second freq in
+    walkedOf (inputsOf nang freq amind (jfhzOf freq) second (third ⊗ third) (p .delpen) fvert hprim htrue afac ifob) (begun r p)

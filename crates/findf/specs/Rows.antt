@@ -6,10 +6,10 @@ use lib.ListN.{getD, set}
 use lib.Dec.{leb}
 use lib.IntN.{ℤ, pos}
 use lib.Ieee.{Float, nan, binary32, ofInt, neg, lt, le}
-use Rattle.arith.specs.Floats.{f32, _⊕_, _⊖_, _⊗_, _⊘_, RZ, D2R, PIO2, maxOf}
+use Rattle.arith.specs.Floats.{_⊕_, _⊖_, _⊗_, _⊘_, RZ, D2R, PIO2, maxOf}
+use Rattle.arith.specs.Numbers.{0·0, 0·001, 1·0, 2·0}
 use Rattle.angles.specs.SinCos.{cosOf}
 use Rattle.angles.specs.Arcsine.{asinOf}
-use Rattle.findf.specs.Penang.{0·0, 1·0}
 use Rattle.findf.specs.Look.{entryOf}
 use Rattle.findf.specs.Inputs.{Inputs}
 use Rattle.findf.specs.Walk.{angOf}
@@ -21,12 +21,6 @@ use Rattle.findf.specs.declared.rows.Corrected.{Corrected}
 use Rattle.findf.specs.declared.rows.Row.{Row}
 use Rattle.findf.specs.declared.rows.Skip.{Skip}
 use Rattle.findf.specs.declared.Reflectrix.{Reflectrix}
-
-abbrev pub 0·001 : Float
-0·001 = f32 0x3a83_126f
-
-abbrev pub 2·0 : Float
-2·0 = f32 0x4000_0000
 
 -- a − b as a float
 unfoldable pub gapOf : ℕ → ℕ → Float
@@ -66,13 +60,13 @@ rawOf fvert hprim htrue afac ifob delpen delfx jfhz NextCusp360 w = rawAt fvert 
 
 -- the row's layer (lines 821, 835, 846, 856 to 860)
 unfoldable pub nextModeOf : ℕ → Float → ℕ
-nextModeOf il fi1 = cond (le fi1 0·0) 3 (il + 1)
+nextModeOf il second = cond (le second 0·0) 3 (il + 1)
 
 abbrev pub modeOf : Fill → ℕ → Float → ℕ
-modeOf Exact il fi1 = il
-modeOf Interp il fi1 = il
-modeOf Cusp il fi1 = il
-modeOf NextCusp360 il fi1 = nextModeOf il fi1
+modeOf Exact il second = il
+modeOf Interp il second = il
+modeOf Cusp il second = il
+modeOf NextCusp360 il second = nextModeOf il second
 
 -- RZ × cos del (line 865)
 unfoldable pub rcosdOf : Float → Float
@@ -111,7 +105,7 @@ rowFrom freq fc2 mode a = rowBy a (correctionOf freq fc2 a) mode
 -- the row of a fill, whole; delfx as written so far
 unfoldable pub rowOf : Inputs → List Float → Fill → Walk → Row
 rowOf e delfx fill w =
-    rowFrom (e .freq) (e .fc2) (modeOf fill (w .il) (e .fi1)) (rawOf (e .fvert) (e .hprim) (e .htrue) (e .afac) (e .ifob) (e .delpen) delfx (e .jfhz) fill w)
+    rowFrom (e .freq) (e .fc2) (modeOf fill (w .il) (e .second)) (rawOf (e .fvert) (e .hprim) (e .htrue) (e .afac) (e .ifob) (e .delpen) delfx (e .jfhz) fill w)
 
 -- lines 877 to 884; il is the walk's layer: at a row after a cusp "it is the old one"
 unfoldable pub skipOf : Skip → Row → ℕ → Skip

@@ -8,7 +8,7 @@ use lib.Dec.{leb, eqb}
 use lib.IntN.{ℤ}
 use lib.Ieee.{Float, nan, lt, le}
 use Rattle.arith.specs.Floats.{f32, _⊖_}
-use Rattle.findf.specs.Penang.{0·0, 89·9}
+use Rattle.arith.specs.Numbers.{0·0, 89·9, 89·99}
 use Rattle.findf.specs.Look.{looksOf}
 use Rattle.findf.specs.declared.look.Looked.{Looked}
 use Rattle.findf.specs.declared.walk.Walk.{Walk}
@@ -16,9 +16,6 @@ use Rattle.findf.specs.declared.walk.Label.{Label}
 use Rattle.findf.specs.declared.walk.Label.the-variants.{Search, NextLayer, Fill, NextCusp, Done}
 use Rattle.findf.specs.declared.walk.Fill as F
 use Rattle.findf.specs.declared.walk.Fill.the-variants.{Exact, Interp, Cusp, NextCusp360}
-
-abbrev pub 89·99 : Float
-89·99 = f32 0x42b3_fae1
 
 -- ANG, ionogram.rs lines 23 to 28: the 40 take-off angles
 unfoldable pub ANG : List Float
@@ -89,13 +86,13 @@ layer w il ih ilow ihigh =
 
 -- NextLayer, lines 772 to 801, by whether il is 1, fi's second is above 0, and il is 2: "rows 1–10, 11–20, 21–30; with no F1, 11–30 for the last"
 unfoldable pub nextLayerBy : Bool → Bool → Bool → Walk → Walk
-nextLayerBy true true second w = layer w 2 11 11 20
-nextLayerBy true false second w = layer w 3 11 11 30
+nextLayerBy true true inF1 w = layer w 2 11 11 20
+nextLayerBy true false inF1 w = layer w 3 11 11 30
 nextLayerBy false f1 true w = layer w 3 21 (w .ihigh + 1) 30
 nextLayerBy false f1 false w = withLabel w Done
 
 unfoldable pub nextLayerOf : Float → Walk → Walk
-nextLayerOf fi1 w = nextLayerBy (eqb (w .il) 1) (lt 0·0 fi1) (eqb (w .il) 2) w
+nextLayerOf second w = nextLayerBy (eqb (w .il) 1) (lt 0·0 second) (eqb (w .il) 2) w
 
 -- NextCusp, lines 802 to 809: "unless the layer is the third or its angle ≥ 89.9, which end all"
 unfoldable pub nextCuspBy : Bool → Bool → Walk → Walk

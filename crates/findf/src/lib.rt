@@ -100,7 +100,7 @@ fn walk_rows(
     freq: f32,
     amind: f32,
     jfhz: u32,
-    fi1: f32,
+    second: f32,
     fc2: f32,
     delpen: &[f32; 3],
     fvert: &[f32; 30],
@@ -110,7 +110,7 @@ fn walk_rows(
     ifob: &[i32; 1200],
 ) -> Outcome
     requires { ⌜ Entries (now ifob) × ((nang ≤ 40) × (jfhz ≤ 99999)) ⌝ }
-    ensures { λ r. ⌜ walkedFrom (now (delfx .exit)) (now (hpflx .exit)) (now (htflx .exit)) (now (gdflx .exit)) (now (fvflx .exit)) (now (afflx .exit)) (now (imode .exit)) r ≡ walkedOf (inputsOf nang freq amind jfhz fi1 fc2 (now (delpen .entry)) (now (fvert .entry)) (now (hprim .entry)) (now (htrue .entry)) (now (afac .entry)) (now (ifob .entry))) (reflectrixFrom (now (delfx .entry)) (now (hpflx .entry)) (now (htflx .entry)) (now (gdflx .entry)) (now (fvflx .entry)) (now (afflx .entry)) (now (imode .entry)) figures) ⌝ }
+    ensures { λ r. ⌜ walkedFrom (now (delfx .exit)) (now (hpflx .exit)) (now (htflx .exit)) (now (gdflx .exit)) (now (fvflx .exit)) (now (afflx .exit)) (now (imode .exit)) r ≡ walkedOf (inputsOf nang freq amind jfhz second fc2 (now (delpen .entry)) (now (fvert .entry)) (now (hprim .entry)) (now (htrue .entry)) (now (afac .entry)) (now (ifob .entry))) (reflectrixFrom (now (delfx .entry)) (now (hpflx .entry)) (now (htflx .entry)) (now (gdflx .entry)) (now (fvflx .entry)) (now (afflx .entry)) (now (imode .entry)) figures) ⌝ }
 {
     let ang = &walk::ANG;
     let mut ahead = rows::ahead_of(ang, 0);
@@ -132,7 +132,7 @@ fn walk_rows(
                 w = walk::search(ang, ifob, delpen, jfhz, nang, w);
             }
             Label::NextLayer => {
-                w = walk::next_layer(fi1, w);
+                w = walk::next_layer(second, w);
             }
             Label::NextCusp => {
                 w = walk::next_cusp(delpen, w);
@@ -149,7 +149,7 @@ fn walk_rows(
                     ifob,
                     delpen,
                     &*delfx,
-                    fi1,
+                    second,
                     jfhz,
                     fill,
                     w,
@@ -216,8 +216,8 @@ fn started(
     nang: usize,
     freq: f32,
     amind: f32,
-    fi1: f32,
-    fi2: f32,
+    second: f32,
+    third: f32,
     fvert: &[f32; 30],
     hprim: &[f32; 30],
     htrue: &[f32; 30],
@@ -225,7 +225,7 @@ fn started(
     ifob: &[i32; 1200],
 ) -> Outcome
     requires { ⌜ Entries (now ifob) × ((nang ≤ 40) × (freqWithin freq ≡ true)) ⌝ }
-    ensures { λ r. ⌜ walkedFrom (now (delfx .exit)) (now (hpflx .exit)) (now (htflx .exit)) (now (gdflx .exit)) (now (fvflx .exit)) (now (afflx .exit)) (now (imode .exit)) r ≡ startedOf (reflectrixFrom (now (delfx .entry)) (now (hpflx .entry)) (now (htflx .entry)) (now (gdflx .entry)) (now (fvflx .entry)) (now (afflx .entry)) (now (imode .entry)) figures) nang freq amind fi1 fi2 (now (fvert .entry)) (now (hprim .entry)) (now (htrue .entry)) (now (afac .entry)) (now (ifob .entry)) ⌝ }
+    ensures { λ r. ⌜ walkedFrom (now (delfx .exit)) (now (hpflx .exit)) (now (htflx .exit)) (now (gdflx .exit)) (now (fvflx .exit)) (now (afflx .exit)) (now (imode .exit)) r ≡ startedOf (reflectrixFrom (now (delfx .entry)) (now (hpflx .entry)) (now (htflx .entry)) (now (gdflx .entry)) (now (fvflx .entry)) (now (afflx .entry)) (now (imode .entry)) figures) nang freq amind second third (now (fvert .entry)) (now (hprim .entry)) (now (htrue .entry)) (now (afac .entry)) (now (ifob .entry)) ⌝ }
 {
     let jfhz = jfhz(freq);
     *hpflx = [0.0; 45];
@@ -233,7 +233,7 @@ fn started(
     *gdflx = [0.0; 45];
     let mut f = figures;
     f.rows_this_call = 0;
-    let p = penang::penang(fvert, htrue, fi1, freq);
+    let p = penang::penang(fvert, htrue, second, freq);
     let delpen = p.delpen;
     f.dmaxkm = unless(p.dead, 0.0);
     f.dskpkm = unless(p.dead, 10000.0);
@@ -251,8 +251,8 @@ fn started(
         freq,
         amind,
         jfhz,
-        fi1,
-        fi2 * fi2,
+        second,
+        third * third,
         &delpen,
         fvert,
         hprim,
@@ -297,7 +297,7 @@ pub fn findf_into(
         afac,
         ifob,
     );
-    let Admission::Granted(fi1, fi2) = admission else {
+    let Admission::Granted(second, third) = admission else {
         return Outcome {
             refusal: checks::number(admission),
             looks: 0,
@@ -316,8 +316,8 @@ pub fn findf_into(
         nang,
         freq,
         amind,
-        fi1,
-        fi2,
+        second,
+        third,
         fvert,
         hprim,
         htrue,

@@ -78,9 +78,9 @@ fn f2(fvert: &[f32; 30], htrue: &[f32; 30], freq: f32, e: f32, f1: f32) -> Penet
     }
 }
 
-// `fi1` is the point's second number: above 0 where there is an F1 layer.
-pub(crate) fn penang(fvert: &[f32; 30], htrue: &[f32; 30], fi1: f32, freq: f32) -> Penetration
-    ensures { λ r. ⌜ r ≡ penangOf (now (fvert .entry)) (now (htrue .entry)) fi1 freq ⌝ }
+// `second` is the point's second number: above 0 where there is an F1 layer.
+pub(crate) fn penang(fvert: &[f32; 30], htrue: &[f32; 30], second: f32, freq: f32) -> Penetration
+    ensures { λ r. ⌜ r ≡ penangOf (now (fvert .entry)) (now (htrue .entry)) second freq ⌝ }
 {
     let frat_e = frat(fvert[9], freq);
     if frat_e >= 0.9999 {
@@ -90,7 +90,7 @@ pub(crate) fn penang(fvert: &[f32; 30], htrue: &[f32; 30], fi1: f32, freq: f32) 
         };
     }
     let e = cusp(htrue[9], frat_e);
-    if fi1 > 0.0 {
+    if second > 0.0 {
         let frat_f1 = frat(fvert[19], freq);
         if frat_f1 >= 0.9999 {
             return Penetration {

@@ -123,11 +123,11 @@ fn raw_between(
 }
 
 // The layer after a cusp.
-fn next_mode(il: u32, fi1: f32) -> u32
+fn next_mode(il: u32, second: f32) -> u32
     requires { ⌜ il ≤ 3 ⌝ }
-    ensures { λ r. ⌜ r ≡ nextModeOf il fi1 ⌝ }
+    ensures { λ r. ⌜ r ≡ nextModeOf il second ⌝ }
 {
-    if fi1 <= 0.0 { 3 } else { il + 1 }
+    if second <= 0.0 { 3 } else { il + 1 }
 }
 
 // One match for all that a fill's kind decides: apart, each would be worked out at every turn of the walk.
@@ -140,14 +140,14 @@ pub(crate) fn filling_of(
     ifob: &[i32; 1200],
     delpen: &[f32; 3],
     delfx: &[f32; 45],
-    fi1: f32,
+    second: f32,
     jfhz: u32,
     fill: Fill,
     w: Walk,
 ) -> Filling
     requires { ⌜ (now ang ≡ ANG) × (Entries (now ifob) × ((jfhz ≤ 99999) × Safe (Label.Fill fill) w)) ⌝ }
     ensures { λ r. ⌜ (r .raw ≡ rawOf (now (fvert .entry)) (now (hprim .entry)) (now (htrue .entry)) (now (afac .entry)) (now (ifob .entry)) (now (delpen .entry)) (now (delfx .entry)) jfhz fill w)
-        × ((r .mode ≡ modeOf fill (w .il) fi1) × ((r .back ≡ backOf fill) × (r .after ≡ afterOf fill))) ⌝ }
+        × ((r .mode ≡ modeOf fill (w .il) second) × ((r .back ≡ backOf fill) × (r .after ≡ afterOf fill))) ⌝ }
 {
     let ia = w.ia;
     let ih = w.ih;
@@ -188,7 +188,7 @@ pub(crate) fn filling_of(
             let raw = raw_at(fvert, hprim, htrue, afac, ihigh, delfx[i - 1] + 0.001);
             Filling {
                 raw: raw,
-                mode: next_mode(il as u32, fi1),
+                mode: next_mode(il as u32, second),
                 back: 0,
                 after: Label::NextLayer,
             }

@@ -141,13 +141,13 @@ pub(crate) fn search(
     }
 }
 
-pub(crate) fn next_layer(fi1: f32, w: Walk) -> Walk
+pub(crate) fn next_layer(second: f32, w: Walk) -> Walk
     requires { ⌜ Safe (w .label) w ⌝ }
-    ensures { λ r. ⌜ r ≡ nextLayerOf fi1 w ⌝ }
+    ensures { λ r. ⌜ r ≡ nextLayerOf second w ⌝ }
 {
     let il = w.il;
     if il == 1 {
-        if fi1 > 0.0 {
+        if second > 0.0 {
             return Walk {
                 label: Label::Search,
                 ia: w.ia,

@@ -2,6 +2,7 @@
 use mathlib.Core.Bool.{cond}
 use lib.Ieee.{Float, lt}
 use Rattle.arith.specs.Floats.{f32, _⊕_, _⊖_, _⊗_, _⊘_, absOf, minOf}
+use Rattle.arith.specs.Numbers.{0·0, 0·5, 1·0, 5·0}
 
 -- the four coefficients of 26.2.18: 0.196854, 0.115194, 0.000344, 0.019527
 abbrev pub c1 : Float
@@ -15,18 +16,6 @@ c3 = f32 0x39b4_5ae6
 
 abbrev pub c4 : Float
 c4 = f32 0x3c9f_f716
-
-abbrev pub 0·0 : Float
-0·0 = f32 0
-
-abbrev pub 0·5 : Float
-0·5 = f32 0x3f00_0000
-
-abbrev pub 1·0 : Float
-1·0 = f32 0x3f80_0000
-
-abbrev pub 5·0 : Float
-5·0 = f32 0x40a0_0000
 
 -- lines 588 to 590 (sigdis.rs, lines 71 to 73): the part of the curve beyond x, 1/2 (1 + c1 x + c2 x² + c3 x³ + c4 x⁴)⁻⁴
 unfoldable pub tailOf : Float → Float

@@ -7,7 +7,7 @@ use lib.ListN.{getD}
 use lib.IntN.{ℤ, pos}
 use lib.Signed.{leZ}
 use lib.Ieee.{Float, neg, le}
-use Rattle.arith.specs.Floats.{f32}
+use Rattle.arith.specs.Numbers.{0·0, 0·1, 2·0, 4·0, 30·0, 90·0, 100·0, 2000·0, 10000·0, 1000000·0}
 
 -- from lo to hi; "NaN never is within", and −0 lies within a range that starts at 0
 unfoldable pub within : Float → Float → Float → Bool
@@ -45,44 +45,44 @@ abbrev pub refusalFreq : ℕ
 refusalFreq = 5
 
 abbrev pub freqWithin : Float → Bool
-freqWithin = within (f32 0x40000000) (f32 0x41f00000)
+freqWithin = within 2·0 30·0
 
 -- 6. "amind is not within 0 to 90."
 abbrev pub refusalAmind : ℕ
 refusalAmind = 6
 
 abbrev pub amindWithin : Float → Bool
-amindWithin = within (f32 0) (f32 0x42b40000)
+amindWithin = within 0·0 90·0
 
 -- 7. "ghop is not within 0 to 4."
 abbrev pub refusalGhop : ℕ
 refusalGhop = 7
 
 abbrev pub ghopWithin : Float → Bool
-ghopWithin = within (f32 0) (f32 0x40800000)
+ghopWithin = within 0·0 4·0
 
 -- 8. "At point k, fi's second is not within 0 to 100 or its third not within 0.1 to 100."
 abbrev pub refusalFi : ℕ
 refusalFi = 8
 
 abbrev pub fiWithin : Float → Float → Bool
-fiWithin second third = within (f32 0) (f32 0x42c80000) second && within (f32 0x3dcccccd) (f32 0x42c80000) third
+fiWithin second third = within 0·0 100·0 second && within 0·1 100·0 third
 
 -- 9. "An fvert is not within 0 to 100, an hprim 0 to 10000, an htrue 0 to 2000 or an afac −1000000 to 1000000."
 abbrev pub refusalTable : ℕ
 refusalTable = 9
 
 abbrev pub fvertWithin : Float → Bool
-fvertWithin = within (f32 0) (f32 0x42c80000)
+fvertWithin = within 0·0 100·0
 
 abbrev pub hprimWithin : Float → Bool
-hprimWithin = within (f32 0) (f32 0x461c4000)
+hprimWithin = within 0·0 10000·0
 
 abbrev pub htrueWithin : Float → Bool
-htrueWithin = within (f32 0) (f32 0x44fa0000)
+htrueWithin = within 0·0 2000·0
 
 abbrev pub afacWithin : Float → Bool
-afacWithin = within (neg (f32 0x49742400)) (f32 0x49742400)
+afacWithin = within (neg 1000000·0) 1000000·0
 
 -- 10. "An ifob entry is not within 0 to 99999."
 abbrev pub refusalIfob : ℕ

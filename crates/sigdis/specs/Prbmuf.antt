@@ -3,16 +3,14 @@ use Prim.Native.Nat.{ℕ, _-_}
 use mathlib.Core.Bool.{cond}
 use lib.ListN.{getD}
 use lib.Ieee.{Float, nan, lt, le}
-use Rattle.arith.specs.Floats.{f32, _⊖_, _⊗_, _⊘_, maxOf}
+use Rattle.arith.specs.Floats.{_⊖_, _⊗_, _⊘_, maxOf}
+use Rattle.arith.specs.Numbers.{0·0, 0·001, 1·0}
 use Rattle.limits.specs.Limits.{layerWithin, refusalLayer}
-use Rattle.fnorml.specs.Fnorml.{0·0, 1·0, tailOf, sizeOf}
+use Rattle.fnorml.specs.Fnorml.{tailOf, sizeOf}
 use Rattle.sigdis.specs.declared.LayerMuf.{LayerMuf}
 use Rattle.sigdis.specs.declared.MufHour.{MufHour}
 use Rattle.sigdis.specs.declared.Probability.{Probability}
 use Rattle.sigdis.specs.declared.Probability.the-variants.{Value, Refused}
-
-abbrev pub 0·001 : Float
-0·001 = f32 0x3a83_126f
 
 -- lines 62 to 68
 unfoldable pub spreadOf : LayerMuf → Float → Float → Float → Float

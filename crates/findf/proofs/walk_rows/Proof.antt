@@ -15,14 +15,14 @@ use Rattle.findf.proofs.walk_rows.Statement.{statement}
 use Rattle.findf.proofs.walk_rows.Tie as tie
 
 abbrev Inv-loop : tie.InvT-loop
-Inv-loop delfx₀ hpflx₀ htflx₀ gdflx₀ fvflx₀ afflx₀ imode₀ nang freq amind jfhz fi1 fc2 delpen fvert hprim htrue afac ifob ang ahead₀ f₀ w₀ delfx hpflx htflx gdflx fvflx afflx imode ahead f w =
-    let e = inputsOf nang freq amind jfhz fi1 fc2 delpen fvert hprim htrue afac ifob in
+Inv-loop delfx₀ hpflx₀ htflx₀ gdflx₀ fvflx₀ afflx₀ imode₀ nang freq amind jfhz second fc2 delpen fvert hprim htrue afac ifob ang ahead₀ f₀ w₀ delfx hpflx htflx gdflx fvflx afflx imode ahead f w =
+    let e = inputsOf nang freq amind jfhz second fc2 delpen fvert hprim htrue afac ifob in
     let r₀ = reflectrixFrom delfx₀ hpflx₀ htflx₀ gdflx₀ fvflx₀ afflx₀ imode₀ f₀ in
     let r = reflectrixFrom delfx hpflx htflx gdflx fvflx afflx imode f in
     Good nang w × (Leads (turnOf e) (start, r₀) (μ (w .label) w) (w, r) (walkOf e r₀) × Foreseen ahead)
 
 abbrev μ-loop : tie.MeasureT-loop
-μ-loop delfx₀ hpflx₀ htflx₀ gdflx₀ fvflx₀ afflx₀ imode₀ nang freq amind jfhz fi1 fc2 delpen fvert hprim htrue afac ifob ang ahead₀ f₀ w₀ delfx hpflx htflx gdflx fvflx afflx imode ahead f w = μ (w .label) w
+μ-loop delfx₀ hpflx₀ htflx₀ gdflx₀ fvflx₀ afflx₀ imode₀ nang freq amind jfhz second fc2 delpen fvert hprim htrue afac ifob ang ahead₀ f₀ w₀ delfx hpflx htflx gdflx fvflx afflx imode ahead f w = μ (w .label) w
 
 ahead-of-requires : tie.Need-ahead-of-requires Inv-loop μ-loop
 unfolding ANG
