@@ -12,8 +12,6 @@ use Rattle.limits.specs.Limits.{refusalFreq, freqWithin, refusalAmind, amindWit
 use Rattle.findf.specs.declared.Reflectrix.{Reflectrix}
 use Rattle.fdist.specs.declared.HopModes.{HopModes}
 use Rattle.fdist.specs.declared.Searched.{Searched}
-use Rattle.fdist.specs.declared.Checked.{Checked}
-use Rattle.fdist.specs.declared.Checked.the-variants.{Within, Broken}
 use Rattle.fdist.specs.declared.pairs.Pair.{Pair}
 use Rattle.fdist.specs.declared.rays.Ray.{Ray}
 use Rattle.fdist.specs.declared.rays.Given.{Given}
@@ -132,16 +130,6 @@ searchBy t dmaxkm d amind freq = cond (le dmaxkm d) noneOf (runOf t d amind freq
 
 abbrev pub searchOf : Reflectrix → Float → Float → Float → Searched
 searchOf rfx d amind freq = searchBy (rowsOf rfx) (rfx .dmaxkm) d amind freq
-
--- one limit, by its number and its test
-abbrev pub checkOf : ℕ → Bool → Float → Checked
-checkOf n true x = Within x
-checkOf n false x = Broken n
-
--- the number of each answer: 0 where the limit holds
-abbrev pub numberOf : Checked → ℕ
-numberOf (Within x) = 0
-numberOf (Broken n) = n
 
 -- "`fdist` 5 to 7, for any reflectrix"
 abbrev pub limitsOf : Float → Float → Float → List (ℕ × Bool)

@@ -1,7 +1,9 @@
 // Translated from hfcast-engine (commit bf34e8f9f3), src/voacap/modes.rs lines 195 to 206 and 909 to 1040, and changed.
 ghost use mathlib.Core.Path.{_≡_};
-ghost use Rattle.fdist.specs.Fdist.{rowsBy, checkOf, numberOf, refusedOf, fdistBy, fdistOf};
+ghost use Rattle.limits.specs.Limits.{broken, checkedBy};
+ghost use Rattle.fdist.specs.Fdist.{rowsBy, limitsOf, refusedOf, fdistBy, fdistOf};
 use findf::Reflectrix;
+use limits::Checked;
 
 mod pairs;
 mod rays;
@@ -27,29 +29,20 @@ pub struct Searched {
     pub m: HopModes,
 }
 
-// The answer of one limit: the value that it lets pass, or the number of the refusal.
-enum Checked {
-    Within(f32),
-    Broken(u32),
-}
-
-fn check(number: u32, within: bool, x: f32) -> Checked
-    ensures { λ r. ⌜ r ≡ checkOf number within x ⌝ }
+// Limits 5 to 7.
+fn numbers_of(ghop: f32, amind: f32, freq: f32) -> Checked
+    ensures { λ r. ⌜ r ≡ checkedBy (broken (limitsOf ghop amind freq)) ⌝ }
 {
-    if within {
-        Checked::Within(x)
-    } else {
-        Checked::Broken(number)
+    if limits::freq_within(freq) {
+        if limits::amind_within(amind) {
+            if limits::ghop_within(ghop) {
+                return Checked::Within;
+            }
+            return Checked::Broken(limits::REFUSAL_GHOP);
+        }
+        return Checked::Broken(limits::REFUSAL_AMIND);
     }
-}
-
-fn number(c: Checked) -> u32
-    ensures { λ r. ⌜ r ≡ numberOf c ⌝ }
-{
-    match c {
-        Checked::Within(_) => 0,
-        Checked::Broken(n) => n,
-    }
+    Checked::Broken(limits::REFUSAL_FREQ)
 }
 
 // Refused: the slots as they were.
@@ -81,17 +74,9 @@ pub fn fdist_over<'a>(
 ) -> Searched
     ensures { λ r. ⌜ r ≡ fdistBy m (rowsBy (now (delfx .entry)) (now (hpflx .entry)) (now (htflx .entry)) (now (gdflx .entry)) (now (fvflx .entry)) (now (afflx .entry)) (now (imode .entry))) dmaxkm ghop amind freq ⌝ }
 {
-    let checked_freq = check(limits::REFUSAL_FREQ, limits::freq_within(freq), freq);
-    let Checked::Within(freq) = checked_freq else {
-        return refused(m, number(checked_freq));
-    };
-    let checked_amind = check(limits::REFUSAL_AMIND, limits::amind_within(amind), amind);
-    let Checked::Within(amind) = checked_amind else {
-        return refused(m, number(checked_amind));
-    };
-    let checked_ghop = check(limits::REFUSAL_GHOP, limits::ghop_within(ghop), ghop);
-    let Checked::Within(ghop) = checked_ghop else {
-        return refused(m, number(checked_ghop));
+    let numbers = numbers_of(ghop, amind, freq);
+    let Checked::Within = numbers else {
+        return refused(m, limits::number(numbers));
     };
     let dhopkm = ghop * arith::RZ;
     if dhopkm >= dmaxkm {

@@ -7,6 +7,8 @@ use lib.ListN.{getD}
 use lib.IntN.{ℤ, pos}
 use lib.Signed.{leZ}
 use lib.Ieee.{Float, neg, le}
+use Rattle.limits.specs.declared.Checked.{Checked}
+use Rattle.limits.specs.declared.Checked.the-variants.{Within, Broken}
 use Rattle.arith.specs.Numbers.{0·0, 0·1, 2·0, 4·0, 30·0, 90·0, 100·0, 2000·0, 10000·0, 1000000·0}
 
 -- from lo to hi; "NaN never is within", and −0 lies within a range that starts at 0
@@ -18,6 +20,15 @@ unfoldable pub broken : List (ℕ × Bool) → ℕ
 broken [] = 0
 broken ((n, true) ∷ ls) = broken ls
 broken ((n, false) ∷ ls) = n
+
+-- the answer of a checked group, by the number of its first limit broken, and that number
+unfoldable pub checkedBy : ℕ → Checked
+checkedBy zero = Within
+checkedBy (suc n) = Broken (suc n)
+
+abbrev pub numberOf : Checked → ℕ
+numberOf Within = 0
+numberOf (Broken n) = n
 
 -- 1. and 2.: the job, or the answer, has another length than its layout
 abbrev pub refusalJob : ℕ

@@ -3,6 +3,7 @@ ghost use mathlib.Core.Path.{_≡_};
 ghost use Rattle.limits.specs.Limits.{kWithin, nangWithin, freqWithin, amindWithin, ghopWithin, fiWithin};
 ghost use Rattle.limits.specs.Limits.{fvertWithin, hprimWithin, htrueWithin, afacWithin, entriesWithin};
 ghost use Rattle.limits.specs.Limits.{slotsWithin, countWithin, layerWithin};
+ghost use Rattle.limits.specs.Limits.{checkedBy, numberOf};
 ghost use Rattle.limits.specs.Limits as meant;
 
 // The numbers of the refusals; those of the definitions have the same names.
@@ -31,6 +32,31 @@ pub const REFUSAL_SLOTS: u32 = 11;
 pub const REFUSAL_COUNT: u32 = 12;
 
 pub const REFUSAL_LAYER: u32 = 13;
+
+// The answer of a checked group of limits: all hold, or the number of the first that is broken.
+pub enum Checked {
+    Within,
+    Broken(u32),
+}
+
+pub fn checked_by(refusal: u32) -> Checked
+    ensures { λ r. ⌜ r ≡ checkedBy refusal ⌝ }
+{
+    if refusal == 0 {
+        Checked::Within
+    } else {
+        Checked::Broken(refusal)
+    }
+}
+
+pub fn number(c: Checked) -> u32
+    ensures { λ r. ⌜ r ≡ numberOf c ⌝ }
+{
+    match c {
+        Checked::Within => 0,
+        Checked::Broken(n) => n,
+    }
+}
 
 // Ends included; NaN is within no range.
 fn within(lo: f32, hi: f32, x: f32) -> bool
