@@ -1,4 +1,4 @@
--- The slots that a loop from i to `to` has still before it, by what slot i is; and what a turn that adds a slot makes of the list.
+-- For `held_count` and `add_held`: the slots that a loop from i to `to` has still before it, by what slot i is; and what a turn that adds a slot makes of the list.
 use Prim.Native.Nat.{ℕ, suc, _+_, _-_, _≤_, _<_}
 use mathlib.Core.Path.{_≡_}
 use mathlib.Core.Bool.{true, false}

@@ -1,4 +1,4 @@
--- An f32 times 2 ^ k, cut, from the digits and the exponent of its bit pattern. Assumes nothing.
+-- For `scaled_by`: an f32 times 2 ^ k, cut, from the digits and the exponent of its bit pattern. Assumes nothing.
 use mathlib.Core.Path.{_≡_, sym, ap, _∙_, subst}
 use mathlib.Core.Bool.{Bool, true, false, cond}
 use Prim.Native.Nat.{ℕ, zero, suc, _+_, _-_, _*_, _/_, _%_, _^_, _≤_, _<_, zero-le}

@@ -1,4 +1,4 @@
--- The code's float literals, as the definitions write them. Assumes nothing.
+-- For the five functions and their units: the code's float literals, as the definitions write them. Assumes nothing.
 use mathlib.Core.Path.{_≡_, refl}
 use mathlib.Core.Bool.{false}
 use lib.IntN.{pos, negsuc}

@@ -1,4 +1,4 @@
--- The three ways of `abs`: below 0, a zero, and above 0 or NaN. Assumes nothing.
+-- For `abs`: the three ways of `abs`: below 0, a zero, and above 0 or NaN. Assumes nothing.
 use mathlib.Core.Path.{_≡_, refl, sym, ap, _∙_}
 use mathlib.Core.Bool.{true, false}
 use Prim.Native.Nat.{ℕ, zero, suc, _+_, _*_, _<_, _≤_, _^_}

@@ -1,4 +1,4 @@
--- 1000 times a frequency within 2 to 30, cut to a whole number, is at most 30000.
+-- For `jfhz`: 1000 times a frequency within 2 to 30, cut to a whole number, is at most 30000.
 use mathlib.Core.Path.{_≡_, sym, subst}
 use Prim.Native.Nat.{_+_, _*_, _/_, _≤_, _<_, _^_, _-_}
 use native.Mathlib.Nat.{le-trans, min-le-left, div-le-of-le-mul}

@@ -1,4 +1,4 @@
--- The numbers of `Safe`, and the row's angle, once it is known which row is filled.
+-- For `filling_of`, `filled` and `walk_rows`: the numbers of `Safe`, and the row's angle, once it is known which row is filled.
 use mathlib.Core.Path.{_≡_, ap}
 use mathlib.Core.List.{List}
 use Prim.Native.Nat.{ℕ, _≤_}

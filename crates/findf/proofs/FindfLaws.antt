@@ -19,7 +19,7 @@ use Rattle.findf.specs.Walk.{start}
 use Rattle.findf.specs.Findf.{State, stepOf, turnOf, walkOf, walkedOf, anglesOf, limitsOf, findfBy, findfOf, walkSteps}
 use Rattle.findf.specs.Inputs.{Job, Inputs}
 use Rattle.findf.specs.Demand as demand
-use Rattle.findf.specs.Demand.{lookTurns, rowsDue, rowAt, RowIs}
+use Rattle.findf.specs.Demand.{looksDue, rowsDue, rowAt, RowIs}
 use Rattle.findf.proofs.StepLaws.{rows-iterate, looks-iterate, walk-iterate, walk-resumes, walk-few, fill-few, walk-looks, walk-rows}
 use Rattle.findf.proofs.RowsLaws.{Sized, sized-throughout, begun-sized, filled-stays, Beyond, beyond-zero, begun-beyond}
 use Rattle.findf.specs.declared.walk.Label.the-variants.{Fill}
@@ -49,7 +49,7 @@ module _ (r : Reflectrix) (j : Job) where
   row-number n = rows-iterate read n (start, first) ∙ zero-add _
 
   -- and its `looks` that of the looks in them
-  pub look-number : (n : ℕ) → stateAt n .0 .looks ≡ count (turnOf read) (lookTurns read) n (start, first)
+  pub look-number : (n : ℕ) → stateAt n .0 .looks ≡ count (turnOf read) (looksDue read) n (start, first)
   look-number n = looks-iterate read n (start, first) ∙ zero-add _
 
   module _ (ok : Accepted) where
@@ -78,7 +78,7 @@ module _ (r : Reflectrix) (j : Job) where
     rows-few = rw findf-walks (omega (arith, rows-counted, walk-few read nang-cap first .1))
 
     -- looks are the turns of the inner loop, rows the steps that write one
-    pub looks-turns : answerOf .looks ≡ count (turnOf read) (lookTurns read) walkSteps (start, first)
+    pub looks-turns : answerOf .looks ≡ count (turnOf read) (looksDue read) walkSteps (start, first)
     unfolding walkedOf
     looks-turns = rw findf-walks (walk-looks read nang-cap first)
 

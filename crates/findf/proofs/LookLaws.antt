@@ -11,7 +11,7 @@ use Rattle.arith.proofs.RunLaws.{Kept, run-keeps, Lessens, Raised, run-same, ru
 use Rattle.arith.specs.Run as Run
 use Rattle.findf.specs.Look.{looked, lookBy, lookOf, looksOf}
 use Rattle.findf.specs.Requires.{interpolates}
-use Rattle.findf.specs.Demand.{turnsFrom}
+use Rattle.findf.specs.Demand.{looksFrom}
 use Rattle.findf.specs.declared.look.Looked.{Looked}
 use Rattle.findf.specs.declared.walk.Label.{Label}
 use Rattle.findf.specs.declared.walk.Label.the-variants.{Search, NextLayer, Fill, NextCusp, Done}
@@ -102,7 +102,7 @@ module _ (ifob : List ℤ) (jfhz column ilow ihigh : ℕ) where
   unfolding lookOf
   look-raises s p = by-raises _ _ _ _ _ (s .0) (s .1)
 
-  pub looks-are-turns : (ih looks : ℕ) → looksOf ifob jfhz column ilow ihigh ih looks .looks ≡ looks + turnsFrom ifob jfhz column ilow ihigh ih looks
+  pub looks-are-turns : (ih looks : ℕ) → looksOf ifob jfhz column ilow ihigh ih looks .looks ≡ looks + looksFrom ifob jfhz column ilow ihigh ih looks
   unfolding looksOf
   looks-are-turns ih looks =
       run-counts (lookOf ifob jfhz column ilow ihigh) any left look-less (λ s. omega arith) (λ _. 1) counted answered look-raises (looked Search ih looks)

@@ -18,7 +18,7 @@ use Rattle.arith.specs.Run.{rest, run, count, iterate, until, stopBy}
 use Rattle.arith.proofs.RunLaws.{Lessens, Raised, Kept, run-same, run-keeps, run-counts, run-iterate, iterate-add, iterate-fixed, iterate-keeps}
 use Rattle.findf.proofs.LookLaws.{looks-are-turns}
 use Rattle.findf.specs.Walk.{angOf, searchBy, searchOf, nextLayerBy, nextLayerOf, nextCuspBy, nextCuspOf, filledBy, filledOf, withLabel, doneAt, start}
-use Rattle.findf.specs.Demand.{turnsFrom, turnsBy, turnsAt, lookTurns, due, rowsDue}
+use Rattle.findf.specs.Demand.{looksFrom, looksBy, looksAt, looksDue, due, rowsDue}
 use Rattle.findf.proofs.WalkLaws.{Good, μ, step-fine, few-looks, few-rows, good-start}
 use Rattle.findf.specs.Findf.{State, stepBy, stepOf, turnOf, walkOf, walkSteps}
 use Rattle.findf.specs.Inputs.{Inputs}
@@ -47,7 +47,7 @@ done-fixed e s d = done-fixed-at e (s .0 .label) (s .0) (s .1) d
 
 -- ---- what a step adds to the counts
 module _ (w : Walk) where
-  search-looks : (dead over beyond cusp : Bool) (l : Looked) (n : ℕ) → l .looks ≡ w .looks + n → searchBy dead over beyond cusp w l .looks ≡ w .looks + turnsBy dead over beyond cusp n
+  search-looks : (dead over beyond cusp : Bool) (l : Looked) (n : ℕ) → l .looks ≡ w .looks + n → searchBy dead over beyond cusp w l .looks ≡ w .looks + looksBy dead over beyond cusp n
   unfolding searchBy
   search-looks true over beyond cusp l n h = omega arith
   search-looks false true beyond cusp l n h = omega arith
@@ -81,8 +81,8 @@ module _ (w : Walk) where
   filled-counts true fill = omega arith
   filled-counts false fill = omega arith
 
-step-looks : (e : Inputs) (l : Label) (w : Walk) (r : Reflectrix) → stepBy e l w r .0 .looks ≡ w .looks + turnsAt e l w
-unfolding stepBy searchOf nextLayerOf nextCuspOf filledOf turnsAt
+step-looks : (e : Inputs) (l : Label) (w : Walk) (r : Reflectrix) → stepBy e l w r .0 .looks ≡ w .looks + looksAt e l w
+unfolding stepBy searchOf nextLayerOf nextCuspOf filledOf looksAt
 step-looks e Search w r = search-looks w _ _ _ _ _ _ (looks-are-turns (e .ifob) (e .jfhz) (w .ia * 30) (w .ilow) (w .ihigh) (w .ih) (w .looks))
 step-looks e NextLayer w r = next-layer-counts w _ _ _ .0
 step-looks e NextCusp w r = next-cusp-counts w _ _ .0
@@ -98,8 +98,8 @@ step-rows e (Fill fill) w r = filled-counts w (leb 45 (w .rows + 1)) fill .1
 step-rows e Done w r = omega arith
 
 -- no look and no row at Done
-done-adds : (e : Inputs) (l : Label) (w : Walk) → doneAt l ≡ true → (turnsAt e l w ≡ 0) × (due l ≡ 0)
-unfolding turnsAt
+done-adds : (e : Inputs) (l : Label) (w : Walk) → doneAt l ≡ true → (looksAt e l w ≡ 0) × (due l ≡ 0)
+unfolding looksAt
 done-adds e Search w d = let z : _≡_ {A = ℕ} 0 1 = cc in absurd (omega arith)
 done-adds e NextLayer w d = (refl, refl)
 done-adds e (Fill fill) w d = let z : _≡_ {A = ℕ} 0 1 = cc in absurd (omega arith)
@@ -126,12 +126,12 @@ module _ (e : Inputs) where
   abbrev looksOfState : State → ℕ
   looksOfState s = s .0 .looks
 
-  looks-raise-by : (b : Bool) (s : State) → stopsAt s ≡ b → Raised looksOfState looksOfState (looksOfState s + lookTurns e s) (stopBy b s (stepOf e s))
+  looks-raise-by : (b : Bool) (s : State) → stopsAt s ≡ b → Raised looksOfState looksOfState (looksOfState s + looksDue e s) (stopBy b s (stepOf e s))
   unfolding stepOf
   looks-raise-by true s d = omega (arith, done-adds e (s .0 .label) (s .0) d .0)
   looks-raise-by false s d = step-looks e (s .0 .label) (s .0) (s .1)
 
-  looks-raise : (s : State) → Reached s → Raised looksOfState looksOfState (looksOfState s + lookTurns e s) (turnOf e s)
+  looks-raise : (s : State) → Reached s → Raised looksOfState looksOfState (looksOfState s + looksDue e s) (turnOf e s)
   unfolding until
   looks-raise s g = looks-raise-by (stopsAt s) s refl
 
@@ -153,7 +153,7 @@ module _ (e : Inputs) where
   unfolding stepOf
   rows-raise s = step-rows e (s .0 .label) (s .0) (s .1)
 
-  looks-step : (s : State) → stepOf e s .0 .looks ≡ s .0 .looks + lookTurns e s
+  looks-step : (s : State) → stepOf e s .0 .looks ≡ s .0 .looks + looksDue e s
   unfolding stepOf
   looks-step s = step-looks e (s .0 .label) (s .0) (s .1)
 
@@ -161,8 +161,8 @@ module _ (e : Inputs) where
   pub rows-iterate : (n : ℕ) (s : State) → iterate n (stepOf e) s .0 .rows ≡ s .0 .rows + count (turnOf e) rowsDue n s
   rows-iterate = counts-iterate (λ (s : State). s .0 .rows) rowsDue rows-raise (λ s d. done-adds e (s .0 .label) (s .0) d .1)
 
-  pub looks-iterate : (n : ℕ) (s : State) → iterate n (stepOf e) s .0 .looks ≡ s .0 .looks + count (turnOf e) (lookTurns e) n s
-  looks-iterate = counts-iterate looksOfState (lookTurns e) looks-step (λ s d. done-adds e (s .0 .label) (s .0) d .0)
+  pub looks-iterate : (n : ℕ) (s : State) → iterate n (stepOf e) s .0 .looks ≡ s .0 .looks + count (turnOf e) (looksDue e) n s
+  looks-iterate = counts-iterate looksOfState (looksDue e) looks-step (λ s d. done-adds e (s .0 .label) (s .0) d .0)
 
   -- a step from a reached state reaches one
   reaches-by : (b : Bool) (s : State) → stopsAt s ≡ b → Reached s → Reached (stepOf e s)
@@ -228,10 +228,10 @@ module _ (e : Inputs) where
         (run-keeps (turnOf e) (withLabel start Done, r) (λ (t : State). Unit {0}) (λ (t : State). stopsAt t ≡ true) turn-stops refl walkSteps (start, r) tt)
 
     -- looks are the turns of the inner loop, and rows the steps that write one
-    pub walk-looks : walkOf e r .0 .looks ≡ count (turnOf e) (lookTurns e) walkSteps (start, r)
+    pub walk-looks : walkOf e r .0 .looks ≡ count (turnOf e) (looksDue e) walkSteps (start, r)
     unfolding walkOf
     walk-looks =
-        run-counts (turnOf e) Reached left turn-less left-pos (lookTurns e) looksOfState looksOfState looks-raise (start, r) walkSteps (start, r) reached-start (omega arith)
+        run-counts (turnOf e) Reached left turn-less left-pos (looksDue e) looksOfState looksOfState looks-raise (start, r) walkSteps (start, r) reached-start (omega arith)
         ∙ zero-add _
 
     pub walk-rows : walkOf e r .0 .rows ≡ count (turnOf e) rowsDue walkSteps (start, r)

@@ -1,4 +1,4 @@
--- What the calls of each label ensure comes to the step of the definition.
+-- For `walk_rows`: what the calls of each label ensure comes to the step of the definition.
 use mathlib.Core.Path.{_≡_, refl, ap, _∙_}
 use mathlib.Core.Bool.{false}
 use lib.Ieee.{Float}

@@ -24,30 +24,30 @@ use Rattle.findf.specs.declared.rows.Row.{Row}
 use Rattle.findf.specs.declared.Reflectrix.{Reflectrix}
 
 -- "a look is one turn of the inner loop": its turns from row ih, at the angle whose entries start at `column`
-abbrev pub turnsFrom : List ℤ → ℕ → ℕ → ℕ → ℕ → ℕ → ℕ → ℕ
-turnsFrom ifob jfhz column ilow ihigh ih looks = count (lookOf ifob jfhz column ilow ihigh) (λ _. 1) (suc (ihigh - ih)) (ih, looks)
+abbrev pub looksFrom : List ℤ → ℕ → ℕ → ℕ → ℕ → ℕ → ℕ → ℕ
+looksFrom ifob jfhz column ilow ihigh ih looks = count (lookOf ifob jfhz column ilow ihigh) (λ _. 1) (suc (ihigh - ih)) (ih, looks)
 
 -- by the four tests of a search (lines 727 to 747: next layer, end of all, beyond nang, cusp): the looks that follow, or none
-abbrev pub turnsBy : Bool → Bool → Bool → Bool → ℕ → ℕ
-turnsBy true over beyond cusp n = 0
-turnsBy false true beyond cusp n = 0
-turnsBy false false true cusp n = 0
-turnsBy false false false true n = 0
-turnsBy false false false false n = n
+abbrev pub looksBy : Bool → Bool → Bool → Bool → ℕ → ℕ
+looksBy true over beyond cusp n = 0
+looksBy false true beyond cusp n = 0
+looksBy false false true cusp n = 0
+looksBy false false false true n = 0
+looksBy false false false false n = n
 
 -- the turns of the inner loop in the step from a state
-unfoldable pub turnsAt : Inputs → Label → Walk → ℕ
-turnsAt e Search w =
+unfoldable pub looksAt : Inputs → Label → Walk → ℕ
+looksAt e Search w =
     let del = getD (e .delpen) (w .il - 1) nan in
-    turnsBy (le del 0·0) (lt 89·99 del) (leb (e .nang) (w .ia)) (le (del ⊖ angOf (w .ia)) 0·0)
-    (turnsFrom (e .ifob) (e .jfhz) (w .ia * 30) (w .ilow) (w .ihigh) (w .ih) (w .looks))
-turnsAt e NextLayer w = 0
-turnsAt e (Fill fill) w = 0
-turnsAt e NextCusp w = 0
-turnsAt e Done w = 0
+    looksBy (le del 0·0) (lt 89·99 del) (leb (e .nang) (w .ia)) (le (del ⊖ angOf (w .ia)) 0·0)
+    (looksFrom (e .ifob) (e .jfhz) (w .ia * 30) (w .ilow) (w .ihigh) (w .ih) (w .looks))
+looksAt e NextLayer w = 0
+looksAt e (Fill fill) w = 0
+looksAt e NextCusp w = 0
+looksAt e Done w = 0
 
-abbrev pub lookTurns : Inputs → State → ℕ
-lookTurns e s = turnsAt e (s .0 .label) (s .0)
+abbrev pub looksDue : Inputs → State → ℕ
+looksDue e s = looksAt e (s .0 .label) (s .0)
 
 -- 1 where the step writes a row
 abbrev pub due : Label → ℕ

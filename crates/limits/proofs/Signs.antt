@@ -1,4 +1,4 @@
--- Tests of signed numbers: the sign of an `or`, and a test turned round. Assumes nothing.
+-- For `entries_within`: tests of signed numbers: the sign of an `or`, and a test turned round. Assumes nothing.
 use mathlib.Core.Path.{_≡_, refl}
 use mathlib.Core.Bool.{Bool, true, false, _&&_, not}
 use Prim.Native.Nat.{ℕ, _^_}

@@ -1,4 +1,4 @@
--- A loop that compares numbers with the words of a record, whatever the numbers' type.
+-- For the comparing functions of `record`: A loop that compares numbers with the words of a record, whatever the numbers' type.
 use mathlib.Core.Path.{_≡_, refl, sym, subst, _∙_}
 use mathlib.Core.Bool.{true, false}
 use mathlib.Core.List.{List}

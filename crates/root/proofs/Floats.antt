@@ -1,4 +1,4 @@
--- What a comparison says of a float, and the value of an f32's bits. Assumes nothing.
+-- For `sqrt` and its parts: what a comparison says of a float, and the value of an f32's bits. Assumes nothing.
 use mathlib.Core.Path.{_≡_, sym, ap, _∙_, subst}
 use mathlib.Core.Bool.{Bool, true, false, not, true≢false}
 use Prim.Native.Nat.{ℕ, suc, _+_, _*_, _/_, _%_, _^_, _<_}

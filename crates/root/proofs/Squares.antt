@@ -1,4 +1,4 @@
--- Squares that fit, and a step up or down to the whole number nearest to a root. Assumes nothing.
+-- For `nearest_root` and `lower`: squares that fit, and a step up or down to the whole number nearest to a root. Assumes nothing.
 use Prim.Native.Nat.{ℕ, zero, suc, _+_, _-_, _*_, _^_, _≤_, _<_}
 use native.Mathlib.Nat.{lt-of-le-of-lt, mul-le-mul, zero-mul}
 use native.Mathlib.Omega.{arith}

@@ -1,4 +1,4 @@
--- Which patterns and which floats are NaN.
+-- For `float` and `bits`: which patterns and which floats are NaN.
 use mathlib.Core.Path.{_≡_, refl, sym, subst, subst⁻¹, _∙_}
 use mathlib.Core.Bool.{Bool, true, false, not}
 use Prim.Native.Nat.{ℕ, _%_, _<_, _≤_}

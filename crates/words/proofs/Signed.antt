@@ -1,4 +1,4 @@
--- A signed number at 32 bits and its bits, by its sign.
+-- For `int` and `bits_of_int`: A signed number at 32 bits and its bits, by its sign.
 use mathlib.Core.Path.{_≡_, refl, sym, ap, _∙_}
 use mathlib.Core.Bool.{true, false}
 use Prim.Native.Nat.{ℕ, zero, suc, _-_, _≤_}
