@@ -61,8 +61,12 @@ fn steps(t: u64, h: u32) -> u64
         let j = (h / 256) as u64;
         let e = (h / 128 % 2) as u64;
         let s = tangent_sides(j, t);
-        if agrees(s, 0, slack(t, j), e) {
+        let q = slack(t, j);
+        if agrees(s, 0, q, e) {
             j + e
+        } else if agrees(s, 0, q, 1 - e) {
+            // The guess was off by a little beside a half step.
+            j + (1 - e)
         } else {
             search(Arc::Tangent, t)
         }

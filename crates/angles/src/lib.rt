@@ -2,6 +2,8 @@
 mod arccosine;
 mod arcsine;
 mod arctangent;
+mod cosine;
+mod difference;
 mod grid;
 mod guess;
 mod scale;
@@ -18,23 +20,13 @@ ghost use Rattle.angles.specs.SinCos.{sinOf, cosOf};
 pub fn sin(x: f32) -> f32
     ensures { λ r. ⌜ r ≡ sinOf x ⌝ }
 {
-    if scale::is_within(x, 4.0) {
-        let p = series::sin_parts(scale::scaled_by(61, x));
-        sine::difference_of(p.plus, p.minus, x < 0.0)
-    } else {
-        0.0 / 0.0
-    }
+    sine::sin(x)
 }
 
 pub fn cos(x: f32) -> f32
     ensures { λ r. ⌜ r ≡ cosOf x ⌝ }
 {
-    if scale::is_within(x, 4.0) {
-        let p = series::cos_parts(scale::scaled_by(61, x));
-        sine::difference_of(p.plus, p.minus, false)
-    } else {
-        0.0 / 0.0
-    }
+    cosine::cos(x)
 }
 
 pub fn asin(x: f32) -> f32

@@ -15,6 +15,9 @@ use super::series::high_product;
 use super::series::short_sin_parts;
 use super::series::sin_parts;
 
+// Half a step, 2^-23, in units of 2^-61: the half step k is the angle (2k + 1) of them.
+const HALF_STEP: u64 = 274877906944;
+
 // Which arc: that of the sine, of the cosine at an argument not below 0 (false) or below it (true), or of the tangent.
 pub(crate) enum Arc {
     Sine,
@@ -43,7 +46,7 @@ fn sine_sides(k: u64, t: u64) -> Sides
     requires { ⌜ k < 2 ^ 24 ⌝ ∗ ⌜ t ≤ 2 ^ 57 ⌝ }
     ensures { λ r. ⌜ (r .low ≡ asinLow k) × (r .high ≡ asinHigh t k) ⌝ }
 {
-    sine_sides_of(sin_parts((2 * k + 1) * 274877906944), t)
+    sine_sides_of(sin_parts((2 * k + 1) * HALF_STEP), t)
 }
 
 // The same by the short evaluation: each side lacks at most 2^20.
@@ -51,14 +54,14 @@ pub(crate) fn short_sine_sides(k: u64, t: u64) -> Sides
     requires { ⌜ k ≤ asinTop ⌝ ∗ ⌜ t ≤ 2 ^ 57 ⌝ }
     ensures { λ r. ⌜ (Close (r .low) (asinLow k) shortBy × Close (r .high) (asinHigh t k) shortBy) × (r .high ≤ 2 ^ 63 + 2 ^ 62) ⌝ }
 {
-    sine_sides_of(short_sin_parts((2 * k + 1) * 274877906944), t)
+    sine_sides_of(short_sin_parts((2 * k + 1) * HALF_STEP), t)
 }
 
 pub(crate) fn cosine_sides(neg: bool, k: u64, t: u64) -> Sides
     requires { ⌜ k < 2 ^ 24 ⌝ ∗ ⌜ t ≤ 2 ^ 57 ⌝ }
     ensures { λ r. ⌜ ((r .low ≡ acosLow neg t k) × (r .high ≡ acosHigh neg t k)) × (r .high ≤ 2 ^ 63 + 2 ^ 62) ⌝ }
 {
-    let p = cos_parts((2 * k + 1) * 274877906944);
+    let p = cos_parts((2 * k + 1) * HALF_STEP);
     if neg {
         Sides {
             low: p.minus + 64,
@@ -76,7 +79,7 @@ pub(crate) fn tangent_sides(k: u64, t: u64) -> Sides
     requires { ⌜ k < 2 ^ 24 ⌝ ∗ ⌜ t ≤ 2 ^ 63 ⌝ }
     ensures { λ r. ⌜ ((r .low ≡ atanLow t k) × (r .high ≡ atanHigh t k)) × (r .high ≤ 2 ^ 63 + 2 ^ 62) ⌝ }
 {
-    let n = (2 * k + 1) * 274877906944;
+    let n = (2 * k + 1) * HALF_STEP;
     let s = sin_parts(n);
     let c = cos_parts(n);
     let down = high_product(t, c.minus);

@@ -1,4 +1,4 @@
--- `angles::sin` meets its contract. Assumes nothing.
+-- `angles::sine::sin` meets its contract. Assumes nothing.
 use borrow.Author.Needs.{needs}
 use mathlib.Core.Path.{_≡_, sym, _∙_, subst}
 use mathlib.Core.Bool.{true}
@@ -9,8 +9,8 @@ use Rattle.angles.specs.SinCos.{four32, sinOf}
 use Rattle.angles.specs.Grid.{within}
 use Rattle.angles.proofs.Argument.{scaled-le, scaled-asked}
 use Rattle.angles.proofs.SinCosBounded.{differ-wide, sin-differ}
-use Rattle.angles.proofs.sin.Statement.{statement}
-use Rattle.angles.proofs.sin.Tie as tie
+use Rattle.angles.proofs.sine.sin.Statement.{statement}
+use Rattle.angles.proofs.sine.sin.Tie as tie
 
 test : (c : tie.After-is-within) → within four32 (c .before .args .x) ≡ c .is-within .result
 test c = cc lit-4

@@ -1,4 +1,4 @@
--- `angles::cos` meets its contract. Assumes nothing.
+-- `angles::cosine::cos` meets its contract. Assumes nothing.
 use borrow.Author.Needs.{needs}
 use mathlib.Core.Path.{_≡_, sym, _∙_, subst}
 use mathlib.Core.Bool.{true}
@@ -9,8 +9,8 @@ use Rattle.angles.specs.SinCos.{four32, cosOf}
 use Rattle.angles.specs.Grid.{within}
 use Rattle.angles.proofs.Argument.{scaled-le, scaled-asked}
 use Rattle.angles.proofs.SinCosBounded.{differ-wide, cos-differ}
-use Rattle.angles.proofs.cos.Statement.{statement}
-use Rattle.angles.proofs.cos.Tie as tie
+use Rattle.angles.proofs.cosine.cos.Statement.{statement}
+use Rattle.angles.proofs.cosine.cos.Tie as tie
 
 test : (c : tie.After-is-within) → within four32 (c .before .args .x) ≡ c .is-within .result
 test c = cc lit-4

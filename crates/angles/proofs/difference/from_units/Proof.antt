@@ -2,8 +2,8 @@
 use borrow.Author.Needs.{needs}
 use Rattle.angles.specs.SinCos.{fromUnits}
 use Rattle.angles.proofs.Literals.{lit-30}
-use Rattle.angles.proofs.sine.from_units.Statement.{statement}
-use Rattle.angles.proofs.sine.from_units.Tie as tie
+use Rattle.angles.proofs.difference.from_units.Statement.{statement}
+use Rattle.angles.proofs.difference.from_units.Tie as tie
 
 cast-nearest-u32-to-f32 : tie.Need-cast-nearest-u32-to-f32
 cast-nearest-u32-to-f32 c = search needs

@@ -2,8 +2,8 @@
 use borrow.Author.Needs.{needs}
 use borrow.Author.Tests.{lt-ltb, le-ltb}
 use Rattle.angles.specs.SinCos.{difference}
-use Rattle.angles.proofs.sine.difference_of.Statement.{statement}
-use Rattle.angles.proofs.sine.difference_of.Tie as tie
+use Rattle.angles.proofs.difference.difference_of.Statement.{statement}
+use Rattle.angles.proofs.difference.difference_of.Tie as tie
 
 sub-from-units : tie.Need-sub-from-units
 sub-from-units c = search needs
