@@ -34,7 +34,7 @@ use Rattle.findf.specs.declared.walk.Label.the-variants.{Search, NextLay
 use Rattle.findf.specs.declared.walk.Fill as F
 use Rattle.findf.specs.declared.walk.Fill.the-variants.{Exact, Interp, Cusp, NextCusp360}
 use Rattle.findf.specs.declared.rows.Raw.{Raw}
-use Rattle.findf.specs.declared.rows.Row.{Row}
+use Rattle.findf.specs.declared.correction.Row.{Row}
 use Rattle.findf.specs.declared.Reflectrix.{Reflectrix}
 
 -- a number of f32, an infinity or NaN

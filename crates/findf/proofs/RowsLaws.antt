@@ -29,7 +29,7 @@ use Rattle.findf.specs.declared.walk.Walk.{Walk}
 use Rattle.findf.specs.declared.walk.Label.{Label}
 use Rattle.findf.specs.declared.walk.Label.the-variants.{Search, NextLayer, Fill, NextCusp, Done}
 use Rattle.findf.specs.declared.walk.Fill as F
-use Rattle.findf.specs.declared.rows.Row.{Row}
+use Rattle.findf.specs.declared.correction.Row.{Row}
 use Rattle.findf.specs.declared.Reflectrix.{Reflectrix}
 
 -- row j of r' is row j of r

@@ -11,10 +11,10 @@ use Rattle.findf.specs.declared.walk.Walk.{Walk}
 use Rattle.findf.specs.declared.walk.Label as L
 use Rattle.findf.specs.declared.walk.Label.the-variants.{Search, NextLayer, Fill, NextCusp, Done}
 use Rattle.findf.specs.declared.walk.Fill as F
-use Rattle.findf.specs.declared.rows.Corrected.{Corrected}
+use Rattle.findf.specs.declared.correction.Corrected.{Corrected}
 use Rattle.findf.specs.declared.rows.Filling.{Filling}
-use Rattle.findf.specs.declared.rows.Row.{Row}
-use Rattle.findf.specs.declared.rows.Skip.{Skip}
+use Rattle.findf.specs.declared.correction.Row.{Row}
+use Rattle.findf.specs.declared.skip.Skip.{Skip}
 use Rattle.findf.specs.declared.Reflectrix.{Reflectrix}
 
 module _ (e : Inputs) (w : Walk) (r : Reflectrix) where

@@ -13,7 +13,7 @@ use Rattle.findf.specs.Findf.{jfhzOf, begun, walkedOf}
 use Rattle.findf.specs.Demand.{due}
 use Rattle.findf.specs.Walk.{angOf}
 use Rattle.findf.specs.Rows.{rcosdOf}
-use Rattle.findf.specs.declared.rows.Ahead.{Ahead}
+use Rattle.findf.specs.declared.correction.Ahead.{Ahead}
 use Rattle.findf.specs.declared.Reflectrix.{Reflectrix}
 use Rattle.findf.specs.declared.Walked.{Walked}
 use Rattle.findf.specs.declared.walk.Walk.{Walk}

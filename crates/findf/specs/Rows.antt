@@ -17,9 +17,9 @@ use Rattle.findf.specs.declared.walk.Walk.{Walk}
 use Rattle.findf.specs.declared.walk.Fill.{Fill}
 use Rattle.findf.specs.declared.walk.Fill.the-variants.{Exact, Interp, Cusp, NextCusp360}
 use Rattle.findf.specs.declared.rows.Raw.{Raw}
-use Rattle.findf.specs.declared.rows.Corrected.{Corrected}
-use Rattle.findf.specs.declared.rows.Row.{Row}
-use Rattle.findf.specs.declared.rows.Skip.{Skip}
+use Rattle.findf.specs.declared.correction.Corrected.{Corrected}
+use Rattle.findf.specs.declared.correction.Row.{Row}
+use Rattle.findf.specs.declared.skip.Skip.{Skip}
 use Rattle.findf.specs.declared.Reflectrix.{Reflectrix}
 
 -- a − b as a float

@@ -10,13 +10,15 @@ ghost use Rattle.findf.specs.Findf.{jfhzOf, unlessOf, walkedOf, findfOf}
 ghost use Rattle.findf.specs.Lent.{reflectrixFrom, walkedFrom};
 
 mod checks;
+mod correction;
 mod look;
 mod penang;
 mod rows;
+mod skip;
 mod walk;
 
 use checks::Admission;
-use rows::Skip;
+use skip::Skip;
 use walk::Label;
 use walk::Walk;
 
@@ -113,7 +115,7 @@ fn walk_rows(
     ensures { λ r. ⌜ walkedFrom (now (delfx .exit)) (now (hpflx .exit)) (now (htflx .exit)) (now (gdflx .exit)) (now (fvflx .exit)) (now (afflx .exit)) (now (imode .exit)) r ≡ walkedOf (inputsOf nang freq amind jfhz second fc2 (now (delpen .entry)) (now (fvert .entry)) (now (hprim .entry)) (now (htrue .entry)) (now (afac .entry)) (now (ifob .entry))) (reflectrixFrom (now (delfx .entry)) (now (hpflx .entry)) (now (htflx .entry)) (now (gdflx .entry)) (now (fvflx .entry)) (now (afflx .entry)) (now (imode .entry)) figures) ⌝ }
 {
     let ang = &walk::ANG;
-    let mut ahead = rows::ahead_of(ang, 0);
+    let mut ahead = correction::ahead_of(ang, 0);
     let mut f = figures;
     let mut w = Walk {
         label: Label::Search,
@@ -156,11 +158,11 @@ fn walk_rows(
                 );
                 let raw = q.raw;
                 let after = q.after;
-                let m = rows::correction_of(raw, freq, fc2, fill, w.ia, ahead);
+                let m = correction::correction_of(raw, freq, fc2, fill, w.ia, ahead);
                 // Before the arcsine, whose answer takes long: the processor works at both.
-                ahead = rows::ahead_of(ang, w.ia);
-                let t = rows::row_of(raw, m, q.mode);
-                let s = rows::skip_of(
+                ahead = correction::ahead_of(ang, w.ia);
+                let t = correction::row_of(raw, m, q.mode);
+                let s = skip::skip_of(
                     Skip {
                         dskpkm: f.dskpkm,
                         delskp: f.delskp,
@@ -172,7 +174,7 @@ fn walk_rows(
                     t,
                     il as u32,
                 );
-                let d = rows::far(f.dmaxkm, t.gdr, t.del, amind);
+                let d = skip::far(f.dmaxkm, t.gdr, t.del, amind);
                 delfx[i] = t.del;
                 hpflx[i] = t.hp;
                 htflx[i] = t.ht;

@@ -2,8 +2,8 @@ use mathlib.Core.Path.{sym, subst, _∙_}
 use Prim.Native.Nat.{ℕ}
 use borrow.Author.Needs.{needs}
 use Rattle.findf.specs.Requires.{Angled}
-use Rattle.findf.proofs.rows.rcosd_of.Statement.{statement}
-use Rattle.findf.proofs.rows.rcosd_of.Tie as tie
+use Rattle.findf.proofs.correction.rcosd_of.Statement.{statement}
+use Rattle.findf.proofs.correction.rcosd_of.Tie as tie
 
 tabled-requires : tie.Need-tabled-requires
 tabled-requires c κs = search needs

@@ -1,6 +1,6 @@
 use borrow.Author.Needs.{needs}
-use Rattle.findf.proofs.rows.row_of.Statement.{statement}
-use Rattle.findf.proofs.rows.row_of.Tie as tie
+use Rattle.findf.proofs.correction.row_of.Statement.{statement}
+use Rattle.findf.proofs.correction.row_of.Tie as tie
 
 hop-requires : tie.Need-hop-requires
 hop-requires c κs = search needs

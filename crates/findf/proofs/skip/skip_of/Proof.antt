@@ -1,6 +1,6 @@
 use Rattle.findf.specs.Rows.{skipOf}
-use Rattle.findf.proofs.rows.skip_of.Statement.{statement}
-use Rattle.findf.proofs.rows.skip_of.Tie as tie
+use Rattle.findf.proofs.skip.skip_of.Statement.{statement}
+use Rattle.findf.proofs.skip.skip_of.Tie as tie
 
 returns : tie.Need-returns
 unfolding skipOf

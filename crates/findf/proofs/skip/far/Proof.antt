@@ -1,6 +1,6 @@
 use Rattle.findf.specs.Rows.{farOf}
-use Rattle.findf.proofs.rows.far.Statement.{statement}
-use Rattle.findf.proofs.rows.far.Tie as tie
+use Rattle.findf.proofs.skip.far.Statement.{statement}
+use Rattle.findf.proofs.skip.far.Tie as tie
 
 returns : tie.Need-returns
 unfolding farOf

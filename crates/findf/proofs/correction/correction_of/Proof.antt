@@ -1,6 +1,6 @@
 use borrow.Author.Needs.{needs}
-use Rattle.findf.proofs.rows.correction_of.Statement.{statement}
-use Rattle.findf.proofs.rows.correction_of.Tie as tie
+use Rattle.findf.proofs.correction.correction_of.Statement.{statement}
+use Rattle.findf.proofs.correction.correction_of.Tie as tie
 
 rcosd-of-requires : tie.Need-rcosd-of-requires
 rcosd-of-requires c κs = search needs

@@ -1,7 +1,7 @@
 use mathlib.Core.Path.{refl}
 use Rattle.findf.specs.Rows.{correctedOf, highOf}
-use Rattle.findf.proofs.rows.martyn.Statement.{statement}
-use Rattle.findf.proofs.rows.martyn.Tie as tie
+use Rattle.findf.proofs.correction.martyn.Statement.{statement}
+use Rattle.findf.proofs.correction.martyn.Tie as tie
 
 returns : tie.Need-returns
 unfolding correctedOf highOf

@@ -1,7 +1,7 @@
 use Rattle.findf.specs.Rows.{hopOf}
 use borrow.Author.Needs.{needs}
-use Rattle.findf.proofs.rows.hop.Statement.{statement}
-use Rattle.findf.proofs.rows.hop.Tie as tie
+use Rattle.findf.proofs.correction.hop.Statement.{statement}
+use Rattle.findf.proofs.correction.hop.Tie as tie
 
 asin-requires : tie.Need-asin-requires
 asin-requires c κs = search needs

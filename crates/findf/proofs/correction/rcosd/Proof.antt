@@ -1,7 +1,7 @@
 use Rattle.findf.specs.Rows.{rcosdOf}
 use borrow.Author.Needs.{needs}
-use Rattle.findf.proofs.rows.rcosd.Statement.{statement}
-use Rattle.findf.proofs.rows.rcosd.Tie as tie
+use Rattle.findf.proofs.correction.rcosd.Statement.{statement}
+use Rattle.findf.proofs.correction.rcosd.Tie as tie
 
 cos-requires : tie.Need-cos-requires
 cos-requires c κs = search needs

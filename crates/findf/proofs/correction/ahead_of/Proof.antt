@@ -2,8 +2,8 @@ use mathlib.Core.Path.{refl}
 use native.Mathlib.Nat.{add-sub-cancel}
 use borrow.Author.Needs.{needs}
 use Rattle.findf.specs.Walk.{angOf}
-use Rattle.findf.proofs.rows.ahead_of.Statement.{statement}
-use Rattle.findf.proofs.rows.ahead_of.Tie as tie
+use Rattle.findf.proofs.correction.ahead_of.Statement.{statement}
+use Rattle.findf.proofs.correction.ahead_of.Tie as tie
 
 place-after-requires : tie.Need-place-after-requires
 place-after-requires c κs = search needs
