@@ -58,8 +58,12 @@ fn steps(neg: bool, t: u64, h: u32) -> u64
     let j = (h / 256) as u64;
     let e = (h / 128 % 2) as u64;
     let s = cosine_sides(neg, j, t);
-    if agrees(s, 0, slack(neg, j), e) {
+    let q = slack(neg, j);
+    if agrees(s, 0, q, e) {
         j + e
+    } else if agrees(s, 0, q, 1 - e) {
+        // The guess was off by a little beside a half step.
+        j + (1 - e)
     } else {
         search(Arc::Cosine(neg), t)
     }

@@ -40,6 +40,9 @@ fn steps(t: u64, h: u32) -> u64
         let e = (h / 128 % 2) as u64;
         if is_confirmed(j, e, t) {
             j + e
+        } else if is_confirmed(j, 1 - e, t) {
+            // The guess was off by a little beside a half step.
+            j + (1 - e)
         } else {
             search(Arc::Sine, t)
         }
