@@ -12,7 +12,6 @@ ghost use Rattle.findf.specs.Lent.{reflectrixFrom, walkedFrom};
 mod checks;
 mod correction;
 mod look;
-mod penang;
 mod rows;
 mod skip;
 mod walk;
