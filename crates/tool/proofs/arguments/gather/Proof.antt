@@ -4,11 +4,6 @@ use borrow.Author.Needs.{needs}
 use mathlib.Core.Path.{_≡_}
 use Rattle.tool.proofs.arguments.gather.Statement.{statement}
 use Rattle.tool.proofs.arguments.gather.Tie as tie
-use Rattle.tool.proofs.arguments.gather.Reads as reads
-use Rattle.tool.proofs.arguments.gather.Lts as lts
-use Rattle.os.proofs.arg_count.Reads as arg-count-reads
-use Rattle.tool.proofs.arguments.add.Reads as add-reads
-use Rattle.tool.proofs.arguments.few.Reads as few-reads
 
 abbrev Inv-loop : tie.InvT-loop
 Inv-loop line₀ last to₀ i₀ line to i = (length line ≡ length line₀) × (i ≤ 11)
@@ -16,47 +11,36 @@ Inv-loop line₀ last to₀ i₀ line to i = (length line ≡ length line₀) ×
 abbrev μ-loop : tie.MeasureT-loop
 μ-loop line₀ last to₀ i₀ line to i = 11 - i
 
--- src/arguments.rt:12:20
 arg-count-requires : tie.Need-arg-count-requires Inv-loop μ-loop
 arg-count-requires c κs = search needs
 
--- src/arguments.rt:12:9
 few-requires : tie.Need-few-requires Inv-loop μ-loop
 few-requires c κs = search needs
 
--- src/arguments.rt:15:5
 loop-holds : tie.Need-loop-holds Inv-loop μ-loop
 loop-holds c = search needs
 
--- src/arguments.rt:16:13
 add-requires : tie.Need-add-requires Inv-loop μ-loop
 add-requires c κs = search needs
 
--- src/arguments.rt:18:13
 same-length : tie.Need-same-length Inv-loop μ-loop
 same-length c = search needs
 
--- src/arguments.rt:18:13
 returns : tie.Need-returns Inv-loop μ-loop
 returns c = search needs
 
--- src/arguments.rt:21:9
 add-i : tie.Need-add-i Inv-loop μ-loop
 add-i c = search needs
 
--- src/arguments.rt:15:5
 loop-less : tie.Need-loop-less Inv-loop μ-loop
 loop-less c = search needs
 
--- src/arguments.rt:15:5
 loop-again : tie.Need-loop-again Inv-loop μ-loop
 loop-again c = search needs
 
--- src/arguments.rt:11:1
 same-length-2 : tie.Need-same-length-2 Inv-loop μ-loop
 same-length-2 c = search needs
 
--- src/arguments.rt:11:1
 returns-2 : tie.Need-returns-2 Inv-loop μ-loop
 returns-2 c = search needs
 
