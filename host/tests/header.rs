@@ -1,4 +1,5 @@
-//! include/ray.h, docs/JOB.md and the wrapper have the numbers, names and forms of the crates.
+//! include/ray.h, docs/JOB.md and the wrapper have the numbers, names and forms of the crates, and
+//! docs/ARCHITECTURE.md has a line for each crate.
 
 use ray::{layout, Field, Refusal};
 use std::collections::BTreeMap;
@@ -334,4 +335,21 @@ fn entry_points() {
     prototypes.sort();
     assert_eq!(prototypes, entries);
     assert!(prototypes.len() >= 6);
+}
+
+#[test]
+fn every_crate_has_a_line() {
+    let page = read("docs/ARCHITECTURE.md");
+    let lines = page.lines().filter(|line| line.starts_with("| `"));
+    // The first cell may name several.
+    let named: Vec<&str> =
+        lines.flat_map(|line| line.split(" | ").next().unwrap().split('`')).collect();
+    let crates = read("crates.txt");
+    let crates = crates
+        .lines()
+        .filter(|line| !line.starts_with('#'))
+        .filter_map(|line| line.split_once(':'));
+    let without: Vec<&str> =
+        crates.map(|(name, _)| name).filter(|name| !named.contains(name)).collect();
+    assert!(without.is_empty(), "docs/ARCHITECTURE.md has no line for {without:?}");
 }
