@@ -302,39 +302,84 @@ fn refusals() {
     }
 }
 
-/// A parameter of a C entry in C: a slice is a pointer, then a length.
-fn in_c(parameter: &str) -> String {
+/// A parameter of a C entry, in C and in Rust: a slice is a pointer, then a length.
+fn lowered(parameter: &str) -> [String; 2] {
     let (name, kind) = parameter.split_once(": ").expect(parameter);
     match kind {
-        "f32" => format!("float {name}"),
-        "u32" => format!("uint32_t {name}"),
-        "&[u8]" => format!("const uint8_t *{name}, size_t {name}_bytes"),
-        "&mut [u8]" => format!("uint8_t *{name}, size_t {name}_bytes"),
+        "f32" => [format!("float {name}"), format!("{name}: f32")],
+        "&[u8]" => [
+            format!("const uint8_t *{name}, size_t {name}_bytes"),
+            format!("{name}: *const u8, {name}_bytes: usize"),
+        ],
+        "&mut [u8]" => [
+            format!("uint8_t *{name}, size_t {name}_bytes"),
+            format!("{name}: *mut u8, {name}_bytes: usize"),
+        ],
         _ => panic!("{parameter}"),
     }
 }
 
-#[test]
-fn entry_points() {
+/// The C entries of raycore, as C and as Rust declare them, sorted.
+fn entries() -> [Vec<String>; 2] {
     let crates = read("crates/raycore/src/lib.rt");
     let entries = crates.lines().filter_map(|line| line.strip_prefix("pub extern \"C\" fn "));
-    let mut entries: Vec<String> = entries
-        .map(|entry| {
-            let (name, rest) = entry.split_once('(').unwrap();
-            let (parameters, result) = rest.split_once(") -> ").unwrap();
-            let result = if result == "f32" { "float" } else { "uint32_t" };
-            let parameters: Vec<_> = parameters.split(", ").map(in_c).collect();
-            format!("{result} {name}({});", parameters.join(", "))
-        })
-        .collect();
+    let mut declared = [vec![], vec![]];
+    for entry in entries {
+        let (name, rest) = entry.split_once('(').unwrap();
+        let (parameters, result) = rest.split_once(") -> ").unwrap();
+        let lowered: Vec<_> = parameters.split(", ").map(lowered).collect();
+        let [c, rust] =
+            [0, 1].map(|i| lowered.iter().map(|p| p[i].as_str()).collect::<Vec<_>>().join(", "));
+        let in_c = match result {
+            "f32" => "float",
+            "u32" => "uint32_t",
+            _ => panic!("{entry}"),
+        };
+        declared[0].push(format!("{in_c} {name}({c});"));
+        declared[1].push(format!("fn {name}({rust}) -> {result};"));
+    }
+    declared.iter_mut().for_each(|entries| entries.sort());
+    assert!(declared[0].len() >= 6);
+    declared
+}
+
+#[test]
+fn entry_points() {
     let header = read("include/ray.h");
     let is_prototype =
         |line: &&str| line.contains(" ray_") && line.ends_with(");") && !line.starts_with(' ');
     let mut prototypes: Vec<_> = header.lines().filter(is_prototype).map(str::to_string).collect();
-    entries.sort();
     prototypes.sort();
-    assert_eq!(prototypes, entries);
-    assert!(prototypes.len() >= 6);
+    // The wrapper's declarations, each on one line.
+    let call = read("host/ray/src/call.rs");
+    let (_, block) = call.split_once("unsafe extern \"C\" {").unwrap();
+    let block =
+        block.split_once("\n    }").unwrap().0.split_whitespace().collect::<Vec<_>>().join(" ");
+    let block = block.replace("( ", "(").replace(", )", ")");
+    let of_rust = block.split_inclusive(';').map(|line| {
+        let (_, declaration) = line.split_once("fn ").unwrap();
+        format!("fn {declaration}")
+    });
+    let mut of_rust: Vec<_> = of_rust.collect();
+    of_rust.sort();
+    assert_eq!([prototypes, of_rust], entries());
+}
+
+/// "no unsafe outside one module"
+#[test]
+fn the_wrappers_unsafe_code_stands_in_one_module() {
+    let sources = Path::new(env!("CARGO_MANIFEST_DIR")).join("ray/src");
+    let with_unsafe =
+        fs::read_dir(sources).unwrap().map(|entry| entry.unwrap().path()).filter(|path| {
+            let text = fs::read_to_string(path).unwrap();
+            text.contains("unsafe ") && !text.contains("#![deny(unsafe_code)]")
+                || text.contains("allow(unsafe_code)")
+        });
+    let names: Vec<_> = with_unsafe.map(|path| path.file_name().unwrap().to_owned()).collect();
+    assert_eq!(names, ["call.rs"]);
+    assert!(
+        read("host/ray/src/lib.rs").contains("\n#![deny(missing_docs)]\n#![deny(unsafe_code)]\n")
+    );
 }
 
 #[test]
