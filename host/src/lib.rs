@@ -25,6 +25,7 @@ pub mod prng;
 pub mod record;
 #[cfg(oracle)]
 pub mod replay;
+pub mod samples;
 pub mod tally;
 
 // The sliced Rust reads `crate::perf`.
