@@ -11,6 +11,7 @@ pub mod entries;
 pub mod exact;
 pub mod fdist;
 pub mod findf;
+pub mod fit;
 pub mod floats;
 pub mod guarded;
 pub mod job;

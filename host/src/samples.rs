@@ -3,7 +3,7 @@
 //! A layer is a parabola of electron density. The 30 sounding frequencies stand where the
 //! engine's ionogram has them, and the oblique table is by the engine's own formula.
 
-use crate::con::RZ;
+use crate::con::{D2R, RZ};
 use crate::entries::FindfJob;
 use crate::findf::{khz, take_off_angles};
 use crate::job::Job;
@@ -158,7 +158,6 @@ fn through(f: f64, fo: f64, ym: f64) -> f64 {
 
 /// The oblique frequencies in kHz of all 40 angles.
 fn oblique(fvert: &[f32; 30], htrue: &[f32; 30]) -> [i32; 1200] {
-    const D2R: f32 = 0.01745329251;
     let mut ifob = [0; 1200];
     for (angle, column) in take_off_angles().zip(ifob.chunks_mut(30)) {
         // The cosine by f64, rounded once: as good as exact, so the table is the same everywhere.
