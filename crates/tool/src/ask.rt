@@ -2,10 +2,8 @@
 ghost use mathlib.Core.Path.{_≡_};
 ghost use mathlib.Core.Bool.{true};
 ghost use Prim.Native.Nat.{_<_};
-ghost use Rattle.tool.specs.Status.{isStatus};
+ghost use Rattle.system.specs.Status.{isStatus};
 ghost use Rattle.command.specs.Ask.{putOf};
-use crate::errors;
-use crate::files;
 use crate::jobs;
 use command::Pair;
 use command::is;
@@ -17,7 +15,7 @@ pub(crate) fn ask(line: &[u8], n: usize, out: i32, err: i32) -> u32
     ensures { λ r. ⌜ isStatus r ≡ true ⌝ }
 {
     if (n != 5) & (n != 7) & (n != 9) {
-        return errors::wrong(
+        return system::wrong(
             err,
             b"ask takes JOB, FILE and one or more of freq MHZ, hop KM, min DEG; 'ray help' says more\n",
             b"",
@@ -28,13 +26,13 @@ pub(crate) fn ask(line: &[u8], n: usize, out: i32, err: i32) -> u32
     let q = pair(line, n, 5);
     let r = pair(line, n, 7);
     if !said(line, 3, p, err) {
-        return crate::USAGE;
+        return system::USAGE;
     }
     if !said(line, 5, q, err) {
-        return crate::USAGE;
+        return system::USAGE;
     }
     if !said(line, 7, r, err) {
-        return crate::USAGE;
+        return system::USAGE;
     }
     if twice(p, q) {
         return again(line, 5, err);
@@ -61,7 +59,7 @@ fn said(line: &[u8], i: usize, p: Pair, err: i32) -> bool
 {
     match p {
         Pair::NoName => {
-            errors::wrong(
+            system::wrong(
                 err,
                 b"ask takes freq, hop or min, and not '",
                 word(line, i),
@@ -70,7 +68,7 @@ fn said(line: &[u8], i: usize, p: Pair, err: i32) -> bool
             false
         }
         Pair::NoNumber => {
-            errors::wrong(
+            system::wrong(
                 err,
                 b"'",
                 word(line, i + 1),
@@ -86,7 +84,7 @@ fn said(line: &[u8], i: usize, p: Pair, err: i32) -> bool
 fn again(line: &[u8], i: usize, err: i32) -> u32
     ensures { λ r. ⌜ isStatus r ≡ true ⌝ }
 {
-    errors::wrong(
+    system::wrong(
         err,
         b"ask has '",
         word(line, i),
@@ -100,9 +98,9 @@ fn changed(line: &[u8], p: Pair, q: Pair, r: Pair, out: i32, err: i32) -> u32
 {
     let name = word(line, 1);
     let mut job = [0u8; 5361];
-    let taken = files::read(name, &mut job);
+    let taken = system::read(name, &mut job);
     if taken.failed {
-        return crate::NO_INPUT;
+        return system::NO_INPUT;
     }
     put_all(&mut job, p, q, r);
     let end = inside(taken.count, &job);
@@ -125,9 +123,9 @@ fn written(name: &[u8], job: &[u8], file: &[u8], out: i32, err: i32) -> u32
     ensures { λ r. ⌜ isStatus r ≡ true ⌝ }
 {
     let mut answer = [0u8; 1460];
-    let number = jobs::numbered(job, &mut answer);
+    let number = page::numbered(job, &mut answer);
     if number != 0 {
         return jobs::refused(name, job, number, false, out, err);
     }
-    files::write(job, file, out, err)
+    system::write(job, file, out, err)
 }

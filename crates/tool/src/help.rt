@@ -1,17 +1,15 @@
 // The help.
 ghost use mathlib.Core.Path.{_≡_};
 ghost use mathlib.Core.Bool.{true};
-ghost use Rattle.tool.specs.Status.{isStatus};
-use crate::errors;
-use crate::files;
+ghost use Rattle.system.specs.Status.{isStatus};
 
 pub(crate) fn help(words: usize, out: i32, err: i32) -> u32
     ensures { λ r. ⌜ isStatus r ≡ true ⌝ }
 {
     if words > 1 {
-        return errors::wrong(err, b"help takes nothing; 'ray help' says more\n", b"", b"");
+        return system::wrong(err, b"help takes nothing; 'ray help' says more\n", b"", b"");
     }
-    files::print(
+    system::print(
         b"ray: the angles at which a shortwave antenna reaches a listener by one hop\n\n  ray show JOB           print the service sheet\n  ray draw JOB [FILE]    write the drawing of the reflectrix, as SVG\n  ray job JOB [FILE]     write the answer, 1460 bytes\n  ray check JOB          say whether the job is accepted, or which limit it breaks\n  ray words JOB          print all words of the answer: name, value, bits\n  ray ask JOB FILE [freq MHZ] [hop KM] [min DEG]\n                         write the job with another frequency, hop or minimum angle\n  ray help               print this text\n\nJOB is a file of 5360 bytes, or - for standard input. FILE is made or\noverwritten; without it, or with -, the output goes to standard output.\nWhere the job is refused nothing is written.\n\nExit status: 0 done; 1 to 10 the limit that the job breaks; 64 wrong use;\n66 JOB cannot be read; 73 FILE cannot be opened; 74 not all could be written.\n",
         out,
         err,

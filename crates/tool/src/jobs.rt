@@ -4,9 +4,7 @@ ghost use mathlib.Core.Bool.{true};
 ghost use Prim.Native.Nat.{_+_, _≤_};
 ghost use lib.ListN.{length};
 ghost use Rattle.job.specs.Job.{refusalOf};
-ghost use Rattle.tool.specs.Status.{isStatus};
-use crate::errors;
-use crate::files;
+ghost use Rattle.system.specs.Status.{isStatus};
 use command::Verb;
 use command::is;
 use command::word;
@@ -18,7 +16,7 @@ pub(crate) fn one(line: &[u8], n: usize, verb: Verb, usage: &[u8], out: i32, err
     ensures { λ r. ⌜ isStatus r ≡ true ⌝ }
 {
     if n != 2 {
-        return errors::wrong(err, usage, b"", b"");
+        return system::wrong(err, usage, b"", b"");
     }
     of_job(line, n, verb, out, err)
 }
@@ -28,10 +26,10 @@ pub(crate) fn one_or_two(line: &[u8], n: usize, verb: Verb, usage: &[u8], out: i
     ensures { λ r. ⌜ isStatus r ≡ true ⌝ }
 {
     if n < 2 {
-        return errors::wrong(err, usage, b"", b"");
+        return system::wrong(err, usage, b"", b"");
     }
     if n > 3 {
-        return errors::wrong(err, usage, b"", b"");
+        return system::wrong(err, usage, b"", b"");
     }
     of_job(line, n, verb, out, err)
 }
@@ -41,9 +39,9 @@ fn of_job(line: &[u8], n: usize, verb: Verb, out: i32, err: i32) -> u32
 {
     let name = word(line, 1);
     let mut job = [0u8; 5361];
-    let taken = files::read(name, &mut job);
+    let taken = system::read(name, &mut job);
     if taken.failed {
-        return crate::NO_INPUT;
+        return system::NO_INPUT;
     }
     let end = inside(taken.count, &job);
     if is(name, b"-") {
@@ -73,25 +71,17 @@ fn answered(
     ensures { λ r. ⌜ isStatus r ≡ true ⌝ }
 {
     let mut answer = [0u8; 1460];
-    let number = numbered(job, &mut answer);
+    let number = page::numbered(job, &mut answer);
     if number != 0 {
         return refused(name, job, number, is_check(verb), out, err);
     }
-    let mut page = io::large_buffer();
-    let length = paged(verb, name, job, &answer, &mut page);
-    let end = inside(length, &page);
+    let mut text = io::large_buffer();
+    let length = page::page(verb, name, job, &answer, &mut text);
+    let end = inside(length, &text);
     if to_file {
-        return files::write(&page[..end], file, out, err);
+        return system::write(&text[..end], file, out, err);
     }
-    files::print(&page[..end], out, err)
-}
-
-// The library's number: 0, or that of the first limit broken.
-pub(crate) fn numbered(job: &[u8], answer: &mut [u8]) -> u32
-    ensures { λ r. ⌜ r ≡ refusalOf (now (job .entry)) (length (now (answer .entry))) ⌝ }
-    ensures { λ r. ⌜ isStatus r ≡ true ⌝ }
-{
-    job::run(job, answer)
+    system::print(&text[..end], out, err)
 }
 
 fn is_check(verb: Verb) -> bool {
@@ -105,50 +95,6 @@ fn is_check(verb: Verb) -> bool {
         Verb::Help => false,
         Verb::Unknown => false,
     }
-}
-
-// What is asked for of an accepted job.
-fn paged(verb: Verb, name: &[u8], job: &[u8], answer: &[u8], out: &mut [u8]) -> usize
-    ensures { λ r. ⌜ r ≤ length (now (out .entry)) ⌝ }
-{
-    match verb {
-        Verb::Show => sheet::sheet(last(name), job, answer, out),
-        Verb::Draw => drawing::drawing(last(name), job, answer, out),
-        Verb::Job => text(out, 0, answer),
-        Verb::Words => listing::listing(answer, out),
-        Verb::Check => accepted(name, out),
-        Verb::Ask => 0,
-        Verb::Help => 0,
-        Verb::Unknown => 0,
-    }
-}
-
-fn accepted(name: &[u8], out: &mut [u8]) -> usize
-    ensures { λ r. ⌜ r ≤ length (now (out .entry)) ⌝ }
-{
-    let a = refusal::plain(name, out, 0);
-    text(out, a, b": accepted\n")
-}
-
-// A name's last part.
-fn last(name: &[u8]) -> &[u8]
-    ensures { λ r. ⌜ length (now r) ≤ length (now (name .entry)) ⌝ }
-{
-    let from = last_start(name);
-    &name[from..]
-}
-
-fn last_start(name: &[u8]) -> usize
-    ensures { λ r. ⌜ r ≤ length (now (name .entry)) ⌝ }
-{
-    let mut i = name.len();
-    while i > 0 {
-        if name[i - 1] == b'/' {
-            return i;
-        }
-        i -= 1;
-    }
-    0
 }
 
 // The two lines of a refusal: an answer of `check`, else an error. The status is the number.
@@ -179,7 +125,7 @@ fn reported(name: &[u8], job: &[u8], number: u32, out: i32, err: i32) -> u32
     if io::write_all(out, &page[..end]) {
         return number;
     }
-    errors::unwritten(err, b"standard output")
+    system::unwritten(err, b"standard output")
 }
 
 fn complained(name: &[u8], job: &[u8], number: u32, err: i32) -> u32

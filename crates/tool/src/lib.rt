@@ -1,38 +1,24 @@
 // The tool `ray`: reads a job, has the library answer it, and prints or writes what a command asks for. What is answered is the exit status.
-mod arguments;
 mod ask;
-mod errors;
-mod files;
 mod help;
 mod jobs;
 
 ghost use mathlib.Core.Path.{_≡_};
 ghost use mathlib.Core.Bool.{true};
-ghost use Rattle.tool.specs.Status.{isStatus};
+ghost use Rattle.system.specs.Status.{isStatus};
 use command::Verb;
 use command::count;
 use command::verb_of;
 use command::word;
-
-// The exit statuses; a refused job's is the number of the limit.
-pub const DONE: u32 = 0;
-
-pub const USAGE: u32 = 64;
-
-pub const NO_INPUT: u32 = 66;
-
-pub const NO_OUTPUT: u32 = 73;
-
-pub const NOT_WRITTEN: u32 = 74;
 
 // The tool over the program's own arguments.
 pub fn run() -> u32
     ensures { λ r. ⌜ isStatus r ≡ true ⌝ }
 {
     let mut line = io::large_buffer();
-    let gathered = arguments::gather(&mut line);
+    let gathered = system::gather(&mut line);
     if !gathered.whole {
-        return errors::wrong(
+        return system::wrong(
             libc::STDERR_FILENO,
             b"a word on the command line is too long\n",
             b"",
@@ -49,12 +35,12 @@ pub fn serve(line: &[u8], out: i32, err: i32) -> u32
 {
     let n = count(line);
     if n == 0 {
-        return errors::wrong(err, b"no command; 'ray help' lists them\n", b"", b"");
+        return system::wrong(err, b"no command; 'ray help' lists them\n", b"", b"");
     }
     let verb = verb_of(word(line, 0));
     match verb {
         Verb::Help => help::help(n, out, err),
-        Verb::Unknown => errors::wrong(
+        Verb::Unknown => system::wrong(
             err,
             b"no command '",
             word(line, 0),

@@ -3,12 +3,14 @@ ghost use Prim.Native.Nat.{_≤_};
 ghost use lib.ListN.{length};
 
 // How far the line has got, and whether every word of it is whole.
-pub(crate) struct Gathered {
-    pub(crate) length: usize,
-    pub(crate) whole: bool,
+pub struct Gathered {
+    pub length: usize,
+    pub whole: bool,
 }
 
-pub(crate) fn gather(line: &mut [u8]) -> Gathered {
+pub fn gather(line: &mut [u8]) -> Gathered
+    ensures { λ r. ⌜ r .length ≤ length (now (line .entry)) ⌝ }
+{
     let last = few(os::arg_count());
     let mut to = 0usize;
     let mut i = 1usize;
@@ -34,7 +36,10 @@ fn few(count: usize) -> usize
 }
 
 // Argument i behind the line, and its byte 0.
-fn add(line: &mut [u8], at: usize, i: usize) -> Gathered {
+fn add(line: &mut [u8], at: usize, i: usize) -> Gathered
+    requires { ⌜ at ≤ length (now line) ⌝ }
+    ensures { λ r. ⌜ r .length ≤ length (now (line .entry)) ⌝ }
+{
     let mut word = [0u8; 4095];
     let n = os::arg(i, &mut word);
     if os::errno() != 0 {

@@ -2,8 +2,8 @@ use Prim.Native.Nat.{_≤_, _-_}
 use lib.ListN.{length}
 use borrow.Author.Needs.{needs}
 use mathlib.Core.Path.{_≡_}
-use Rattle.tool.proofs.files.read_all.Statement.{statement}
-use Rattle.tool.proofs.files.read_all.Tie as tie
+use Rattle.system.proofs.files.read_all.Statement.{statement}
+use Rattle.system.proofs.files.read_all.Tie as tie
 
 abbrev Inv-loop : tie.InvT-loop
 Inv-loop fd buf₀ n₀ buf n = (length buf ≡ length buf₀) × (n ≤ length buf)

@@ -2,11 +2,11 @@ use Prim.Native.Nat.{_≤_, _-_}
 use lib.ListN.{length}
 use borrow.Author.Needs.{needs}
 use mathlib.Core.Path.{_≡_}
-use Rattle.tool.proofs.arguments.gather.Statement.{statement}
-use Rattle.tool.proofs.arguments.gather.Tie as tie
+use Rattle.system.proofs.arguments.gather.Statement.{statement}
+use Rattle.system.proofs.arguments.gather.Tie as tie
 
 abbrev Inv-loop : tie.InvT-loop
-Inv-loop line₀ last to₀ i₀ line to i = (length line ≡ length line₀) × (i ≤ 11)
+Inv-loop line₀ last to₀ i₀ line to i = (length line ≡ length line₀) × (i ≤ 11) × (to ≤ length line₀)
 
 abbrev μ-loop : tie.MeasureT-loop
 μ-loop line₀ last to₀ i₀ line to i = 11 - i

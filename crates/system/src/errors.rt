@@ -3,7 +3,7 @@ ghost use mathlib.Core.Path.{_≡_};
 ghost use Prim.Native.Nat.{_≤_};
 ghost use lib.ListN.{length};
 ghost use mathlib.Core.Bool.{true};
-ghost use Rattle.tool.specs.Status.{isStatus};
+ghost use Rattle.system.specs.Status.{isStatus};
 use decimal::inside;
 use decimal::text;
 
@@ -25,14 +25,14 @@ fn say(fd: i32, before: &[u8], word: &[u8], after: &[u8]) {
 }
 
 // Wrong use.
-pub(crate) fn wrong(err: i32, before: &[u8], word: &[u8], after: &[u8]) -> u32
+pub fn wrong(err: i32, before: &[u8], word: &[u8], after: &[u8]) -> u32
     ensures { λ r. ⌜ isStatus r ≡ true ⌝ }
 {
     say(err, before, word, after);
     crate::USAGE
 }
 
-pub(crate) fn unwritten(err: i32, name: &[u8]) -> u32
+pub fn unwritten(err: i32, name: &[u8]) -> u32
     ensures { λ r. ⌜ isStatus r ≡ true ⌝ }
 {
     say(err, b"", name, b": not all could be written\n");
@@ -40,7 +40,7 @@ pub(crate) fn unwritten(err: i32, name: &[u8]) -> u32
 }
 
 // Why the call that just failed did, in the system's own words.
-pub(crate) fn failed(name: &[u8]) {
+pub fn failed(name: &[u8]) {
     let mut page = io::large_buffer();
     let end = refusal::plain(name, &mut page, 0);
     let n = inside(end, &page);

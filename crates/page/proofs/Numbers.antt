@@ -10,7 +10,7 @@ use borrow.Author.Tests.{leb-true, le-leb}
 use Rattle.limits.specs.Limits.{broken}
 use Rattle.job.specs.Job.{lengthLimits, refusalOf}
 use Rattle.job.specs.Parts.{jobOf, limitsOf}
-use Rattle.tool.specs.Status.{isStatus}
+use Rattle.system.specs.Status.{isStatus}
 
 abbrev numbers : ℕ → List (ℕ × Bool) → Bool
 numbers m [] = true

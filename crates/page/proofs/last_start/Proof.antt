@@ -1,8 +1,8 @@
 use Prim.Native.Nat.{_≤_, _-_}
 use lib.ListN.{length}
 use borrow.Author.Needs.{needs}
-use Rattle.tool.proofs.jobs.last_start.Statement.{statement}
-use Rattle.tool.proofs.jobs.last_start.Tie as tie
+use Rattle.page.proofs.last_start.Statement.{statement}
+use Rattle.page.proofs.last_start.Tie as tie
 
 abbrev Inv-loop : tie.InvT-loop
 Inv-loop name i₀ i = i ≤ length name

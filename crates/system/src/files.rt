@@ -3,18 +3,20 @@ ghost use mathlib.Core.Path.{_≡_};
 ghost use mathlib.Core.Bool.{true};
 ghost use Prim.Native.Nat.{_≤_};
 ghost use lib.ListN.{length};
-ghost use Rattle.tool.specs.Status.{isStatus};
+ghost use Rattle.system.specs.Status.{isStatus};
 use crate::errors;
 use command::is;
 
 // How many bytes came, and whether a call failed.
-pub(crate) struct Taken {
-    pub(crate) count: usize,
-    pub(crate) failed: bool,
+pub struct Taken {
+    pub count: usize,
+    pub failed: bool,
 }
 
 // Reads until the buffer is full, so that an endless input ends, or to the end of the input.
-fn read_all(fd: i32, buf: &mut [u8]) -> Taken {
+fn read_all(fd: i32, buf: &mut [u8]) -> Taken
+    ensures { λ r. ⌜ r .count ≤ length (now (buf .entry)) ⌝ }
+{
     let mut n = 0usize;
     while n < buf.len() {
         let got = libc::read(fd, &mut buf[n..]);
@@ -40,7 +42,9 @@ fn read_all(fd: i32, buf: &mut [u8]) -> Taken {
 }
 
 // The named job, or standard input; a failure is said.
-pub(crate) fn read(name: &[u8], buf: &mut [u8]) -> Taken {
+pub fn read(name: &[u8], buf: &mut [u8]) -> Taken
+    ensures { λ r. ⌜ r .count ≤ length (now (buf .entry)) ⌝ }
+{
     if is(name, b"-") {
         let taken = read_all(libc::STDIN_FILENO, buf);
         if taken.failed {
@@ -64,7 +68,7 @@ pub(crate) fn read(name: &[u8], buf: &mut [u8]) -> Taken {
     taken
 }
 
-pub(crate) fn print(bytes: &[u8], out: i32, err: i32) -> u32
+pub fn print(bytes: &[u8], out: i32, err: i32) -> u32
     ensures { λ r. ⌜ isStatus r ≡ true ⌝ }
 {
     if io::write_all(out, bytes) {
@@ -74,7 +78,7 @@ pub(crate) fn print(bytes: &[u8], out: i32, err: i32) -> u32
 }
 
 // To the named file, or to standard output.
-pub(crate) fn write(bytes: &[u8], name: &[u8], out: i32, err: i32) -> u32
+pub fn write(bytes: &[u8], name: &[u8], out: i32, err: i32) -> u32
     ensures { λ r. ⌜ isStatus r ≡ true ⌝ }
 {
     if is(name, b"-") {
