@@ -33,7 +33,7 @@ pub fn wrong(err: i32, before: &[u8], word: &[u8], after: &[u8]) -> u32
 }
 
 pub fn unwritten(err: i32, name: &[u8]) -> u32
-    ensures { λ r. ⌜ isStatus r ≡ true ⌝ }
+    ensures { λ r. ⌜ r ≡ 74 ⌝ }
 {
     say(err, b"", name, b": not all could be written\n");
     crate::NOT_WRITTEN

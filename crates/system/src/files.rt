@@ -3,7 +3,7 @@ ghost use mathlib.Core.Path.{_≡_};
 ghost use mathlib.Core.Bool.{true};
 ghost use Prim.Native.Nat.{_≤_};
 ghost use lib.ListN.{length};
-ghost use Rattle.system.specs.Status.{isStatus};
+ghost use Rattle.system.specs.Status.{isStatus, endsAs};
 use crate::errors;
 use command::is;
 
@@ -69,6 +69,7 @@ pub fn read(name: &[u8], buf: &mut [u8]) -> Taken
 }
 
 pub fn print(bytes: &[u8], out: i32, err: i32) -> u32
+    ensures { λ r. ⌜ endsAs 0 r ≡ true ⌝ }
     ensures { λ r. ⌜ isStatus r ≡ true ⌝ }
 {
     if io::write_all(out, bytes) {
@@ -79,6 +80,7 @@ pub fn print(bytes: &[u8], out: i32, err: i32) -> u32
 
 // To the named file, or to standard output.
 pub fn write(bytes: &[u8], name: &[u8], out: i32, err: i32) -> u32
+    ensures { λ r. ⌜ endsAs 0 r ≡ true ⌝ }
     ensures { λ r. ⌜ isStatus r ≡ true ⌝ }
 {
     if is(name, b"-") {

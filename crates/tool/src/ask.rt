@@ -2,7 +2,8 @@
 ghost use mathlib.Core.Path.{_≡_};
 ghost use mathlib.Core.Bool.{true};
 ghost use Prim.Native.Nat.{_<_};
-ghost use Rattle.system.specs.Status.{isStatus};
+ghost use Rattle.system.specs.Status.{isStatus, endsAs};
+ghost use Rattle.job.specs.Job.{answerBytes, refusalOf};
 ghost use Rattle.command.specs.Ask.{putOf};
 use crate::jobs;
 use command::Pair;
@@ -120,6 +121,7 @@ fn put_all(job: &mut [u8], p: Pair, q: Pair, r: Pair)
 
 // The changed job goes out where the library accepts it.
 fn written(name: &[u8], job: &[u8], file: &[u8], out: i32, err: i32) -> u32
+    ensures { λ r. ⌜ endsAs (refusalOf (now (job .entry)) answerBytes) r ≡ true ⌝ }
     ensures { λ r. ⌜ isStatus r ≡ true ⌝ }
 {
     let mut answer = [0u8; 1460];

@@ -3,8 +3,8 @@ ghost use mathlib.Core.Path.{_≡_};
 ghost use mathlib.Core.Bool.{true};
 ghost use Prim.Native.Nat.{_+_, _≤_};
 ghost use lib.ListN.{length};
-ghost use Rattle.job.specs.Job.{refusalOf};
-ghost use Rattle.system.specs.Status.{isStatus};
+ghost use Rattle.job.specs.Job.{answerBytes, refusalOf};
+ghost use Rattle.system.specs.Status.{isStatus, endsAs};
 use command::Verb;
 use command::is;
 use command::word;
@@ -68,6 +68,7 @@ fn answered(
     out: i32,
     err: i32,
 ) -> u32
+    ensures { λ r. ⌜ endsAs (refusalOf (now (job .entry)) answerBytes) r ≡ true ⌝ }
     ensures { λ r. ⌜ isStatus r ≡ true ⌝ }
 {
     let mut answer = [0u8; 1460];
@@ -107,6 +108,7 @@ pub(crate) fn refused(
     err: i32,
 ) -> u32
     requires { ⌜ isStatus number ≡ true ⌝ }
+    ensures { λ r. ⌜ endsAs number r ≡ true ⌝ }
     ensures { λ r. ⌜ isStatus r ≡ true ⌝ }
 {
     if checked {
@@ -117,6 +119,7 @@ pub(crate) fn refused(
 
 fn reported(name: &[u8], job: &[u8], number: u32, out: i32, err: i32) -> u32
     requires { ⌜ isStatus number ≡ true ⌝ }
+    ensures { λ r. ⌜ endsAs number r ≡ true ⌝ }
     ensures { λ r. ⌜ isStatus r ≡ true ⌝ }
 {
     let mut page = io::large_buffer();
