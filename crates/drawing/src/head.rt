@@ -21,11 +21,22 @@ fn escaped_byte(b: u8, out: &mut [u8], at: usize) -> usize
     put(out, at, b)
 }
 
+// How many bytes of a line n counts: n, or all of them.
+fn counted(n: usize) -> usize
+    ensures { λ r. ⌜ r ≤ 128 ⌝ }
+{
+    if n < 128 {
+        return n;
+    }
+    128
+}
+
 // The first n bytes of a line, as text in XML.
 fn escaped(line: &[u8; 128], n: usize, out: &mut [u8], at: usize) -> usize {
+    let end = counted(n);
     let mut to = at;
     let mut i = 0usize;
-    while (i < 128) & (i < n) {
+    while i < end {
         to = escaped_byte(line[i], out, to);
         i += 1;
     }
