@@ -82,6 +82,10 @@ significand f e = cond (eqb e 0) f (f + 2 ^ 23)
 abbrev pub field : ℕ → ℕ
 field e = cond (eqb e 0) 1 e
 
+-- the size of an f32 by its bits, in units of 1 / t, rounded so
+abbrev pub unitsOf : ℕ → ℕ → ℕ
+unitsOf w t = units (significand (fractionOf w) (exponentOf w)) (field (exponentOf w)) t
+
 -- NaN, `inf`, `-inf`
 abbrev pub namedText : Bool → Bool → List ℕ
 namedText nan below = cond nan (78 ∷ 97 ∷ 78 ∷ []) (cond below (45 ∷ 105 ∷ 110 ∷ 102 ∷ []) (105 ∷ 110 ∷ 102 ∷ []))

@@ -1,4 +1,8 @@
 // A float as a whole number of decimal units, rounded, and how many columns its text takes: all by value.
+mod sized;
+
+pub use sized::tenths_of;
+pub use sized::thousandths_of;
 ghost use mathlib.Core.Path.{_≡_};
 ghost use Prim.Native.Nat.{_<_, _≤_, _^_, min};
 ghost use lib.ListN.{length};

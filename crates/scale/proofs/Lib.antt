@@ -1,0 +1,2 @@
+pub mod ScaleLaws
+mod Table

@@ -1,0 +1,14 @@
+use borrow.Author.Needs.{needs}
+use native.Mathlib.Omega.{arith}
+use native.Mathlib.Nat.{mul-le-mul}
+use Rattle.scale.proofs.reach.Statement.{statement}
+use Rattle.scale.proofs.reach.Tie as tie
+
+mul-result : tie.Need-mul-result
+mul-result c = omega (arith, mul-le-mul (c .pre .0) (c .pre .1))
+
+returns : tie.Need-returns
+returns c = search needs
+
+pub reach-spec : {M : Type 1} → statement M
+reach-spec = tie.close (tie.spec mul-result returns)
