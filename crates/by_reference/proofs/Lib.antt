@@ -1,1 +1,3 @@
-pub mod Plain
+pub mod FdistParams
+pub mod FindfParams
+pub mod Lending

@@ -14,6 +14,7 @@ use denote.Floats.{float-vals, float-tells, float-makes, float-lawful}
 use denote.Signed.{sint-vals, sint-tells, sint-makes, sint-lawful}
 use denote.Array.{array-vals, array-tells, array-makes, array-lawful}
 use denote.Builtin.{f32, usize, i32, Array}
+use Rattle.findf.specs.Inputs.{Job, jobBy}
 
 abbrev pub Fi : RattleType
 Fi = Array (Array f32 tt 3) tt 5
@@ -26,6 +27,10 @@ Ifob = Array i32 tt 1200
 
 abbrev pub Plain : List RattleType
 Plain = usize ∷ usize ∷ f32 ∷ f32 ∷ Fi ∷ Table ∷ Table ∷ Table ∷ Table ∷ Ifob ∷ []
+
+-- the job that they are
+abbrev pub jobOf : Denots Plain → Job
+jobOf ps = jobBy (ps .0) (ps .1 .0) (ps .1 .1 .0) (ps .1 .1 .1 .0) (ps .1 .1 .1 .1 .0) (ps .1 .1 .1 .1 .1 .0) (ps .1 .1 .1 .1 .1 .1 .0) (ps .1 .1 .1 .1 .1 .1 .1 .0) (ps .1 .1 .1 .1 .1 .1 .1 .1 .0) (ps .1 .1 .1 .1 .1 .1 .1 .1 .1 .0)
 
 abbrev pub spells : Spells Plain
 spells =
