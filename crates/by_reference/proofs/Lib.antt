@@ -1,3 +1,4 @@
+pub mod Cells
 pub mod FdistParams
 pub mod FindfParams
-pub mod Lending
+pub mod Locals

@@ -5,9 +5,9 @@ ghost use Rattle.findf.specs.Findf.{findfOf};
 ghost use Rattle.fdist.specs.Fdist.{fdistOf};
 ghost use Rattle.by_reference.specs.ByReference.{walkedWith, searchedWith};
 use fdist::HopModes;
-use fdist::Searched;
 use findf::Reflectrix;
-use findf::Walked;
+
+pub mod lending;
 
 // The refusal's number, 0 where there is none; the turns of the inner loop.
 pub struct FindfResult {
@@ -66,55 +66,5 @@ pub fn fdist(m: &mut HopModes, rfx: &Reflectrix, ghop: f32, amind: f32, freq: f3
         refusal: s.refusal,
         pairs: s.pairs,
         rays: s.rays,
-    }
-}
-
-// By value: a local is lent. Code with no reference to a struct can call it.
-pub fn findf_lending(
-    rfx: Reflectrix,
-    k: usize,
-    nang: usize,
-    freq: f32,
-    amind: f32,
-    fi: [[f32; 3]; 5],
-    fvert: [f32; 30],
-    hprim: [f32; 30],
-    htrue: [f32; 30],
-    afac: [f32; 30],
-    ifob: [i32; 1200],
-) -> Walked
-    ensures { λ r. ⌜ r ≡ findfOf rfx (jobBy k nang freq amind fi fvert hprim htrue afac ifob) ⌝ }
-{
-    let mut lent = rfx;
-    let r = findf(
-        &mut lent,
-        k,
-        nang,
-        freq,
-        amind,
-        fi,
-        fvert,
-        hprim,
-        htrue,
-        afac,
-        ifob,
-    );
-    Walked {
-        refusal: r.refusal,
-        looks: r.looks,
-        rfx: lent,
-    }
-}
-
-pub fn fdist_lending(m: HopModes, rfx: Reflectrix, ghop: f32, amind: f32, freq: f32) -> Searched
-    ensures { λ r. ⌜ r ≡ fdistOf m rfx ghop amind freq ⌝ }
-{
-    let mut lent = m;
-    let r = fdist(&mut lent, &rfx, ghop, amind, freq);
-    Searched {
-        refusal: r.refusal,
-        pairs: r.pairs,
-        rays: r.rays,
-        m: lent,
     }
 }

@@ -110,7 +110,7 @@ fn searched(title: &[u8], s: Searched) {
 fn walk(nang: usize) -> Walked {
     let mut fvert = [7.0f32; 30];
     fvert[9] = 3.0;
-    by_reference::findf_lending(
+    by_reference::lending::findf(
         used_reflectrix(),
         2,
         nang,
@@ -126,7 +126,7 @@ fn walk(nang: usize) -> Walked {
 }
 
 fn search(ghop: f32) -> Searched {
-    by_reference::fdist_lending(used_slots(), used_reflectrix(), ghop, 3.0, 5.0)
+    by_reference::lending::fdist(used_slots(), used_reflectrix(), ghop, 3.0, 5.0)
 }
 
 fn main() {

@@ -152,7 +152,7 @@ pub extern "C" fn ray_findf_by_reference(
 ) -> Walked
     ensures { λ r. ⌜ r ≡ findfOf rfx (jobBy k nang freq amind (now (fi .entry)) (now (fvert .entry)) (now (hprim .entry)) (now (htrue .entry)) (now (afac .entry)) (now (ifob .entry))) ⌝ }
 {
-    by_reference::findf_lending(
+    by_reference::lending::findf(
         rfx,
         k,
         nang,
@@ -177,5 +177,5 @@ pub extern "C" fn ray_fdist_by_reference(
 ) -> Searched
     ensures { λ r. ⌜ r ≡ fdistOf m rfx ghop amind freq ⌝ }
 {
-    by_reference::fdist_lending(m, rfx, ghop, amind, freq)
+    by_reference::lending::fdist(m, rfx, ghop, amind, freq)
 }
