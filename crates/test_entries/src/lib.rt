@@ -19,6 +19,8 @@ use sigdis::LayerMuf;
 use sigdis::MufHour;
 use sigdis::Probability;
 
+mod lent;
+
 #[no_mangle]
 pub extern "C" fn ray_sqrt(x: f32) -> f32
     ensures { λ r. ⌜ r ≡ sqrtOf x ⌝ }
@@ -133,49 +135,4 @@ pub extern "C" fn ray_fdist(
     ensures { λ r. ⌜ r ≡ fdistOf m rfx ghop amind freq ⌝ }
 {
     fdist::fdist(m, rfx, ghop, amind, freq)
-}
-
-// The same two over a local that is lent.
-#[no_mangle]
-pub extern "C" fn ray_findf_by_reference(
-    rfx: Reflectrix,
-    k: usize,
-    nang: usize,
-    freq: f32,
-    amind: f32,
-    fi: &[[f32; 3]; 5],
-    fvert: &[f32; 30],
-    hprim: &[f32; 30],
-    htrue: &[f32; 30],
-    afac: &[f32; 30],
-    ifob: &[i32; 1200],
-) -> Walked
-    ensures { λ r. ⌜ r ≡ findfOf rfx (jobBy k nang freq amind (now (fi .entry)) (now (fvert .entry)) (now (hprim .entry)) (now (htrue .entry)) (now (afac .entry)) (now (ifob .entry))) ⌝ }
-{
-    by_reference::lending::findf(
-        rfx,
-        k,
-        nang,
-        freq,
-        amind,
-        *fi,
-        *fvert,
-        *hprim,
-        *htrue,
-        *afac,
-        *ifob,
-    )
-}
-
-#[no_mangle]
-pub extern "C" fn ray_fdist_by_reference(
-    m: HopModes,
-    rfx: Reflectrix,
-    ghop: f32,
-    amind: f32,
-    freq: f32,
-) -> Searched
-    ensures { λ r. ⌜ r ≡ fdistOf m rfx ghop amind freq ⌝ }
-{
-    by_reference::lending::fdist(m, rfx, ghop, amind, freq)
 }
