@@ -6,11 +6,11 @@ use lib.IntN.{ℤ}
 use lib.Ieee.{Float}
 use Rattle.arith.specs.Floats.{f32, _⊗_}
 use Rattle.arith.specs.Numbers.{0·0}
-use Rattle.findf.specs.Penang.{penangOf}
+use Rattle.penang.specs.Penang.{penangOf}
 use Rattle.findf.specs.Findf.{walkedOf, jfhzOf, unlessOf, begunBy}
 use Rattle.findf.specs.Inputs.{inputsOf}
 use Rattle.findf.specs.Requires.{startedOf}
-use Rattle.findf.specs.declared.penang.Penetration.{Penetration}
+use Rattle.penang.specs.declared.Penetration.{Penetration}
 use Rattle.findf.specs.declared.Reflectrix.{Reflectrix}
 
 pub begins : (r : Reflectrix) (nang : ℕ) (freq amind second third : Float) (fvert hprim htrue afac : List Float) (ifob : List ℤ)

@@ -1,9 +1,9 @@
 -- For `look` and the fills: an entry within limit 10 comes back from its bits, and is its own size. Assumes nothing.
-use mathlib.Core.Path.{_≡_}
+use mathlib.Core.Path.{_≡_, refl}
 use mathlib.Core.Bool.{true}
 use Prim.Native.Nat.{ℕ, zero, suc, _≤_, _<_}
 use native.Mathlib.Omega.{arith}
-use mathlib.Core.List.{List}
+use mathlib.Core.List.{List, [], _∷_}
 use lib.Dec.{T, leb}
 use lib.ListN.{getD}
 use lib.IntN.{ℤ, pos, negsuc, natAbs}
@@ -45,13 +45,19 @@ size : (v : ℤ) → Small v → natAbs v ≤ 99999
 size (pos n) h = h
 size (negsuc n) h = absurd h
 
+-- an entry that is within is not a missing one
+present : (l : List ℤ) (i : ℕ) → Entry (getD l i (negsuc 0)) → Entry (getD l i (pos 0))
+present [] i e = refl
+present (x ∷ xs) zero e = e
+present (x ∷ xs) (suc i) e = present xs i e
+
 -- each entry that the scan has passed
 each-to : (ifob : List ℤ) (n : ℕ) → entriesWithin ifob n ≡ true → (i : ℕ) → i < n → Entry (getD ifob i (pos 0))
 unfolding entriesWithin
 each-to ifob zero e i h = absurd (omega arith)
 each-to ifob (suc n) e i h =
-    let b = both (entriesWithin ifob n) (ifobWithin (getD ifob n (pos 0))) e in
-    below-more (λ (k : ℕ). Entry (getD ifob k (pos 0))) n (each-to ifob n (b .0)) (b .1) i (omega arith)
+    let b = both (entriesWithin ifob n) (ifobWithin (getD ifob n (negsuc 0))) e in
+    below-more (λ (k : ℕ). Entry (getD ifob k (pos 0))) n (each-to ifob n (b .0)) (present ifob n (b .1)) i (omega arith)
 
 pub each : (ifob : List ℤ) → Entries ifob → (i : ℕ) → i < 1200 → Entry (getD ifob i (pos 0))
 each ifob e = each-to ifob 1200 e

@@ -17,7 +17,7 @@ use Rattle.arith.proofs.RunLaws.{iterate-keeps}
 use Rattle.limits.specs.Limits.{broken}
 use Rattle.root.specs.Root.{sqrtOf}
 use Rattle.angles.specs.Arccosine.{acosOf}
-use Rattle.findf.specs.Penang.{fratOf, angleOf, cuspOf, xmOf, cdelOf, penetration, topOf, f2Of, f1Of, penangOf}
+use Rattle.penang.specs.Penang.{fratOf, angleOf, cuspOf, xmOf, cdelOf, penetration, topOf, f2Of, f1Of, penangOf}
 use Rattle.findf.specs.Walk.{ANG, angOf, start, searchBy, searchOf, nextLayerBy, nextLayerOf, nextCuspBy, nextCuspOf, filledBy, filledOf}
 use Rattle.findf.specs.Rows.{rawOf, nextModeOf, modeOf, highOf, correctedOf, rowOf}
 use Rattle.findf.specs.Findf.{State, fillOf, stepBy, stepOf, begun, walkOf, walkedOf, limitsOf, anglesOf, findfOf, walkSteps}
@@ -26,7 +26,7 @@ use Rattle.findf.proofs.StepLaws.{walk-iterate}
 use Rattle.findf.specs.Demand as demand
 use Rattle.findf.specs.Demand.{rowAt}
 use Rattle.findf.proofs.FindfLaws as laws
-use Rattle.findf.specs.declared.penang.Penetration.{Penetration}
+use Rattle.penang.specs.declared.Penetration.{Penetration}
 use Rattle.findf.specs.declared.look.Looked.{Looked}
 use Rattle.findf.specs.declared.walk.Walk.{Walk}
 use Rattle.findf.specs.declared.walk.Label.{Label}

@@ -24,7 +24,7 @@ use Rattle.findf.specs.Rows.{farOf}
 use Rattle.findf.specs.Findf.{State, fillOf, stepBy, stepOf, unlessOf, begun}
 use Rattle.findf.specs.Inputs.{Inputs}
 use Rattle.findf.proofs.StepLaws.{step-rows}
-use Rattle.findf.specs.declared.penang.Penetration.{Penetration}
+use Rattle.penang.specs.declared.Penetration.{Penetration}
 use Rattle.findf.specs.declared.walk.Walk.{Walk}
 use Rattle.findf.specs.declared.walk.Label.{Label}
 use Rattle.findf.specs.declared.walk.Label.the-variants.{Search, NextLayer, Fill, NextCusp, Done}

@@ -10,12 +10,12 @@ use Rattle.arith.specs.Floats.{_⊗_}
 use Rattle.arith.specs.Numbers.{0·0, 1·0, 1000·0, 10000·0}
 use Rattle.arith.specs.Run.{Next, run, until}
 use Rattle.limits.specs.Limits.{entriesWithin, broken, refusalK, kWithin, refusalNang, nangWithin, refusalFreq, freqWithin, refusalAmind, amindWithin, refusalFi, fiWithin, refusalTable, refusalIfob}
-use Rattle.findf.specs.Penang.{penangOf}
+use Rattle.penang.specs.Penang.{penangOf}
 use Rattle.findf.specs.Walk.{searchOf, nextLayerOf, nextCuspOf, filledOf, doneAt, start}
 use Rattle.findf.specs.Inputs.{Job, secondOf, thirdOf, Inputs, inputsOf}
 use Rattle.findf.specs.Rows.{rowOf, putRow}
 use Rattle.findf.specs.Checks.{rowsWithin}
-use Rattle.findf.specs.declared.penang.Penetration.{Penetration}
+use Rattle.penang.specs.declared.Penetration.{Penetration}
 use Rattle.findf.specs.declared.walk.Walk.{Walk}
 use Rattle.findf.specs.declared.walk.Label.{Label}
 use Rattle.findf.specs.declared.walk.Label.the-variants.{Search, NextLayer, Fill, NextCusp, Done}

@@ -1,5 +1,4 @@
 -- What the functions mean: these are to be read.
-pub mod Penang
 pub mod Look
 pub mod Walk
 pub mod Inputs

@@ -7,7 +7,7 @@ use lib.IntN.{ℤ}
 use lib.Ieee.{Float}
 use Rattle.arith.specs.Floats.{_⊗_, D2R}
 use Rattle.limits.specs.Limits.{ifobWithin, entriesWithin}
-use Rattle.findf.specs.Penang.{penangOf}
+use Rattle.penang.specs.Penang.{penangOf}
 use Rattle.findf.specs.Inputs.{inputsOf}
 use Rattle.findf.specs.Findf.{jfhzOf, begun, walkedOf}
 use Rattle.findf.specs.Demand.{due}

@@ -4,7 +4,7 @@ use mathlib.Core.Bool.{Bool, true, false, _&&_}
 use mathlib.Core.List.{List, [], _∷_}
 use lib.Dec.{leb}
 use lib.ListN.{getD}
-use lib.IntN.{ℤ, pos}
+use lib.IntN.{ℤ, pos, negsuc}
 use lib.Signed.{leZ}
 use lib.Ieee.{Float, neg, le}
 use Rattle.limits.specs.declared.Checked.{Checked}
@@ -102,10 +102,10 @@ refusalIfob = 10
 abbrev pub ifobWithin : ℤ → Bool
 ifobWithin x = leZ (pos 0) x && leZ x (pos 99999)
 
--- the first n entries
+-- the first n entries; a missing one counts as −1 and so is outside
 unfoldable pub entriesWithin : List ℤ → ℕ → Bool
 entriesWithin ifob zero = true
-entriesWithin ifob (suc i) = entriesWithin ifob i && ifobWithin (getD ifob i (pos 0))
+entriesWithin ifob (suc i) = entriesWithin ifob i && ifobWithin (getD ifob i (negsuc 0))
 
 -- 11. "`accumulate` has ist 0 or lst above 7."
 abbrev pub refusalSlots : ℕ

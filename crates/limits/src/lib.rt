@@ -130,11 +130,12 @@ pub fn afac_within(afac: f32) -> bool
 pub fn entries_within(ifob: &[i32; 1200]) -> bool
     ensures { λ r. ⌜ r ≡ entriesWithin (now (ifob .entry)) 1200 ⌝ }
 {
+    let entries = &ifob[..];
     let mut bits = 0i32;
     let mut above = false;
     let mut i = 0usize;
     while i < 1200 {
-        let entry = ifob[i];
+        let entry = entries[i];
         bits = bits | entry;
         above = above | (entry > 99999);
         i += 1;

@@ -14,7 +14,7 @@ use Rattle.sigdis.specs.Prbmuf.{spreadOf, sideOf, chanceOf, prbmufOf}
 use Rattle.limits.specs.Limits.{entriesWithin, within, broken}
 use Rattle.root.specs.Root.{sqrtOf}
 use Rattle.arith.specs.Run.{run, until}
-use Rattle.findf.specs.Penang.{fratOf, angleOf, cuspOf, xmOf, cdelOf, topOf, f2Of, f1Of, penangOf}
+use Rattle.penang.specs.Penang.{fratOf, angleOf, cuspOf, xmOf, cdelOf, topOf, f2Of, f1Of, penangOf}
 use Rattle.findf.specs.Look.{entryOf, lookBy, lookOf, looksOf}
 use Rattle.findf.specs.Walk.{ANG, angOf, searchBy, searchOf, nextLayerBy, nextLayerOf, nextCuspBy, nextCuspOf, filledBy, filledOf}
 use Rattle.findf.specs.Rows.{gapOf, slopeOf, rawOf, nextModeOf, rcosdOf, highOf, hopOf, correctedOf, rowOf, skipOf, farOf}

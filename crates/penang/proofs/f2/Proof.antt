@@ -1,7 +1,7 @@
-use Rattle.findf.specs.Penang.{f2Of, topOf}
+use Rattle.penang.specs.Penang.{f2Of, topOf}
 use borrow.Author.Needs.{needs}
-use Rattle.findf.proofs.penang.f2.Statement.{statement}
-use Rattle.findf.proofs.penang.f2.Tie as tie
+use Rattle.penang.proofs.f2.Statement.{statement}
+use Rattle.penang.proofs.f2.Tie as tie
 
 element-copy-out-if1 : tie.Need-element-copy-out-if1
 element-copy-out-if1 c = search needs

@@ -1,7 +1,7 @@
-use Rattle.findf.specs.Penang.{xmOf}
+use Rattle.penang.specs.Penang.{xmOf}
 use borrow.Author.Needs.{needs}
-use Rattle.findf.proofs.penang.xm.Statement.{statement}
-use Rattle.findf.proofs.penang.xm.Tie as tie
+use Rattle.penang.proofs.xm.Statement.{statement}
+use Rattle.penang.proofs.xm.Tie as tie
 
 frat-requires : tie.Need-frat-requires
 frat-requires c κs = search needs

@@ -1,7 +1,7 @@
-use Rattle.findf.specs.Penang.{penangOf, f1Of}
+use Rattle.penang.specs.Penang.{penangOf, f1Of}
 use borrow.Author.Needs.{needs}
-use Rattle.findf.proofs.penang.penang.Statement.{statement}
-use Rattle.findf.proofs.penang.penang.Tie as tie
+use Rattle.penang.proofs.penang.Statement.{statement}
+use Rattle.penang.proofs.penang.Tie as tie
 
 element-copy-out-frat : tie.Need-element-copy-out-frat
 element-copy-out-frat c = search needs

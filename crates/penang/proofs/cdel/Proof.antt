@@ -1,6 +1,6 @@
-use Rattle.findf.specs.Penang.{cdelOf}
-use Rattle.findf.proofs.penang.cdel.Statement.{statement}
-use Rattle.findf.proofs.penang.cdel.Tie as tie
+use Rattle.penang.specs.Penang.{cdelOf}
+use Rattle.penang.proofs.cdel.Statement.{statement}
+use Rattle.penang.proofs.cdel.Tie as tie
 
 returns : tie.Need-returns
 unfolding cdelOf

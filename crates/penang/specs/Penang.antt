@@ -8,7 +8,7 @@ use Rattle.arith.specs.Floats.{_⊕_, _⊖_, _⊗_, _⊘_, RZ, R2D}
 use Rattle.arith.specs.Numbers.{0·0, 0·0001, 0·9999, 0·999999, 1·0, 89·9, 90·0}
 use Rattle.root.specs.Root.{sqrtOf}
 use Rattle.angles.specs.Arccosine.{acosOf}
-use Rattle.findf.specs.declared.penang.Penetration.{Penetration}
+use Rattle.penang.specs.declared.Penetration.{Penetration}
 
 -- "the squared ratio fvert/freq" (lines 609 to 610)
 unfoldable pub fratOf : Float → Float → Float

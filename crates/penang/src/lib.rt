@@ -1,7 +1,7 @@
 // Translated from hfcast-engine (commit bf34e8f9f3), src/voacap/modes.rs lines 601 to 668, and changed.
 // The penetration angles of the three layers.
 ghost use mathlib.Core.Path.{_≡_};
-ghost use Rattle.findf.specs.Penang.{fratOf, cuspOf, xmOf, cdelOf, f2Of, penangOf};
+ghost use Rattle.penang.specs.Penang.{fratOf, cuspOf, xmOf, cdelOf, f2Of, penangOf};
 use arith::R2D;
 use arith::RZ;
 
@@ -9,7 +9,7 @@ use arith::RZ;
 const COS_CAP: f32 = 0.999999;
 
 // The three angles; `dead` where the Rust sets dskpkm and dmaxkm to -1.
-pub(crate) struct Penetration {
+pub struct Penetration {
     pub delpen: [f32; 3],
     pub dead: bool,
 }
@@ -79,7 +79,7 @@ fn f2(fvert: &[f32; 30], htrue: &[f32; 30], freq: f32, e: f32, f1: f32) -> Penet
 }
 
 // `second` is the point's second number: above 0 where there is an F1 layer.
-pub(crate) fn penang(fvert: &[f32; 30], htrue: &[f32; 30], second: f32, freq: f32) -> Penetration
+pub fn penang(fvert: &[f32; 30], htrue: &[f32; 30], second: f32, freq: f32) -> Penetration
     ensures { λ r. ⌜ r ≡ penangOf (now (fvert .entry)) (now (htrue .entry)) second freq ⌝ }
 {
     let frat_e = frat(fvert[9], freq);

@@ -1,7 +1,7 @@
-use Rattle.findf.specs.Penang.{cuspOf, angleOf}
+use Rattle.penang.specs.Penang.{cuspOf, angleOf}
 use borrow.Author.Needs.{needs}
-use Rattle.findf.proofs.penang.cusp.Statement.{statement}
-use Rattle.findf.proofs.penang.cusp.Tie as tie
+use Rattle.penang.proofs.cusp.Statement.{statement}
+use Rattle.penang.proofs.cusp.Tie as tie
 
 sqrt-requires : tie.Need-sqrt-requires
 sqrt-requires c κs = search needs
