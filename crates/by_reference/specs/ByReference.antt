@@ -1,4 +1,5 @@
--- findf and fdist behind a `&mut`: what the return value makes with what was lent, at the end of the call, is the answer of the form by value.
+-- findf and fdist behind a `&mut`, document 01: "two thin faces update a reflectrix and a rayset that the caller lends".
+-- What the return value makes with what was lent, as the call leaves it, is the answer of the form by value.
 use Rattle.findf.specs.declared.Reflectrix.{Reflectrix}
 use Rattle.findf.specs.declared.Walked.{Walked}
 use Rattle.fdist.specs.declared.HopModes.{HopModes}

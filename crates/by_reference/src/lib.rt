@@ -1,4 +1,4 @@
-// findf and fdist as the Rust has them, over a reflectrix and a rayset that the caller lends. A refusal leaves what was lent as it was.
+// findf and fdist as the Rust has them, over a reflectrix and slots that the caller lends. A refusal leaves what was lent as it was.
 ghost use mathlib.Core.Path.{_≡_};
 ghost use Rattle.findf.specs.Inputs.{jobBy};
 ghost use Rattle.findf.specs.Findf.{findfOf};

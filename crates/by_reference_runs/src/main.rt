@@ -1,4 +1,4 @@
-// Runs findf and fdist over a reflectrix and a rayset that are lent, and were used before: one accepted call and one refused call of each.
+// Runs findf and fdist over a reflectrix and slots that are lent, and were used before: one accepted call and one refused call of each.
 mod say;
 
 use fdist::HopModes;

@@ -1,4 +1,4 @@
--- `by_reference::fdist` meets its contract: a walk of its MIR, by hand. The `&mut` is opened and the `&` is looked at, both structs are copied whole, `fdist::fdist` is called on the copies, the rayset in its answer is stored whole, and the borrow is closed at that rayset.
+-- `by_reference::fdist` meets its contract: a walk of its MIR, by hand. The `&mut` is opened and the `&` is looked at, both structs are copied whole, `fdist::fdist` is called on the copies, the slots in its answer are stored whole, and the borrow is closed at those slots.
 -- No field of either is looked at. All that is known of `fdist::fdist` is that it meets its contract.
 -- Assumes nothing.
 use mathlib.Core.Path.{_≡_, refl, ap}
@@ -66,7 +66,7 @@ use Rattle.by_reference.proofs.fdist.Code as code
 abbrev stayed : Stays (f.ended .signature .params) (f.ended .kept)
 stayed = (stay-ref (0 ∷ []) tt (plain (λ _. T.the-row)), (stay-none-ref (1 ∷ []) tt (plain (λ _. X.the-row)) yes, (stay-none (λ _. f32) yes, (stay-none (λ _. f32) yes, (stay-none (λ _. f32) yes, tt)))))
 
--- the machine values of a rayset and of a reflectrix, whole
+-- the machine values of the slots and of a reflectrix, whole
 abbrev mach : HopModes → Val
 mach h = LL.val T.the-type T′.the-laws h
 

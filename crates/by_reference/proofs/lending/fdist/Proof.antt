@@ -72,7 +72,7 @@ mach h = LL.val T.the-type T′.the-laws h
 abbrev mach-rfx : Reflectrix → Val
 mach-rfx g = LL.val X.the-type X′.the-laws g
 
--- the last values that the callee says: the rayset's, and nothing of the rest
+-- the last values that the callee says: the slots', and nothing of the rest
 abbrev Lasts : Type 0
 Lasts = HopModes × (Unit {0} × (Unit {0} × (Unit {0} × (Unit {0} × Unit {0}))))
 
