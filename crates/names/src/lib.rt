@@ -1,4 +1,4 @@
-// A job's name as the sheet and the drawing show it.
+// A name as the tool, the sheet and the drawing show it.
 ghost use Prim.Native.Nat.{_≤_};
 ghost use lib.ListN.{length};
 use decimal::put;
@@ -9,8 +9,7 @@ const MOST: usize = 48;
 
 const LEFT: usize = 45;
 
-// A byte outside 32 to 126 is `?`.
-fn plain(b: u8) -> u8 {
+fn shown_byte(b: u8) -> u8 {
     if b < 32 {
         return b'?';
     }
@@ -20,20 +19,21 @@ fn plain(b: u8) -> u8 {
     b
 }
 
-fn plains(s: &[u8], out: &mut [u8], at: usize) -> usize
+// The name as it was given, each byte outside 32 to 126 as `?`.
+pub fn plain(s: &[u8], out: &mut [u8], at: usize) -> usize
     ensures { λ r. ⌜ r ≤ length (now (out .entry)) ⌝ }
 {
     let mut to = decimal::inside(at, out);
     let mut i = 0usize;
     while i < s.len() {
-        to = put(out, to, plain(s[i]));
+        to = put(out, to, shown_byte(s[i]));
         i += 1;
     }
     to
 }
 
 // Where the last part begins, after the last `/`.
-fn last(name: &[u8]) -> usize
+pub fn last(name: &[u8]) -> usize
     ensures { λ r. ⌜ r ≤ length (now (name .entry)) ⌝ }
 {
     let mut i = name.len();
@@ -52,9 +52,9 @@ fn cut(part: &[u8], out: &mut [u8], at: usize) -> usize
     if part.len() > MOST {
         let a = text(out, at, b"...");
         let from = part.len() - LEFT;
-        return plains(&part[from..], out, a);
+        return plain(&part[from..], out, a);
     }
-    plains(part, out, at)
+    plain(part, out, at)
 }
 
 // The name's last part, cut from the left to `...` and 45 characters where it has more than 48.

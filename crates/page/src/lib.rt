@@ -36,7 +36,7 @@ pub fn page(verb: Verb, name: &[u8], job: &[u8], answer: &[u8], out: &mut [u8]) 
 fn accepted(name: &[u8], out: &mut [u8]) -> usize
     ensures { λ r. ⌜ r ≤ length (now (out .entry)) ⌝ }
 {
-    let a = refusal::plain(name, out, 0);
+    let a = names::plain(name, out, 0);
     text(out, a, b": accepted\n")
 }
 
@@ -44,19 +44,6 @@ fn accepted(name: &[u8], out: &mut [u8]) -> usize
 fn last(name: &[u8]) -> &[u8]
     ensures { λ r. ⌜ length (now r) ≤ length (now (name .entry)) ⌝ }
 {
-    let from = last_start(name);
+    let from = names::last(name);
     &name[from..]
-}
-
-fn last_start(name: &[u8]) -> usize
-    ensures { λ r. ⌜ r ≤ length (now (name .entry)) ⌝ }
-{
-    let mut i = name.len();
-    while i > 0 {
-        if name[i - 1] == b'/' {
-            return i;
-        }
-        i -= 1;
-    }
-    0
 }
