@@ -20,7 +20,8 @@ fn plain(b: u8) -> u8 {
     b
 }
 
-fn plains(s: &[u8], out: &mut [u8], at: usize) -> usize
+// A text with each byte outside 32 to 126 as `?`.
+pub fn plains(s: &[u8], out: &mut [u8], at: usize) -> usize
     ensures { λ r. ⌜ r ≤ length (now (out .entry)) ⌝ }
 {
     let mut to = decimal::inside(at, out);
@@ -55,6 +56,18 @@ fn cut(part: &[u8], out: &mut [u8], at: usize) -> usize
         return plains(&part[from..], out, a);
     }
     plains(part, out, at)
+}
+
+// How many characters are shown of a name.
+pub fn width(name: &[u8]) -> usize
+    ensures { λ r. ⌜ r ≤ 48 ⌝ }
+{
+    let from = last(name);
+    let n = name.len() - from;
+    if n > MOST {
+        return MOST;
+    }
+    n
 }
 
 // The name's last part, cut from the left to `...` and 45 characters where it has more than 48.
