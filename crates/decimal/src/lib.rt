@@ -1,45 +1,46 @@
-// Text of numbers into a lent slice of bytes. What does not fit is dropped.
+// Texts and numbers into a lent slice of bytes. What does not fit is dropped; each function returns where its text ends.
 mod template;
 
 pub use template::filled;
 ghost use mathlib.Core.Path.{_≡_};
-ghost use Prim.Native.Nat.{_+_, _<_, _≤_, _^_};
-ghost use lib.ListN.{length, take};
-ghost use Rattle.decimal.specs.Decimals.{nearest as meant·nearest, units as meant·units};
+ghost use mathlib.Core.Bool.{cond};
+ghost use mathlib.Core.List.{[], _∷_};
+ghost use Prim.Native.Nat.{_-_, _<_, _≤_, _+_, _^_, min};
+ghost use lib.ListN.{length, take, replicate};
+ghost use Rattle.rounding.specs.Decimals.{decimal as decimalText, boundText, namedText, signed, textOf, floatText, tenthsText, rightIn};
+ghost use Rattle.rounding.specs.Decimals as meant;
+ghost use Rattle.decimal.specs.Wrote.{Wrote, hexText};
+use rounding::Shown;
 
-// n / p, to the nearest, ties to even.
-fn nearest(n: u64, p: u64) -> u64
-    requires { ⌜ 0 < p ⌝ }
-    requires { ⌜ p < 2 ^ 60 ⌝ }
-    requires { ⌜ n < 2 ^ 60 ⌝ }
-    ensures { λ r. ⌜ r ≡ meant·nearest n p ⌝ }
+// How many of buf's bytes n counts: n, or all of them.
+pub fn inside(n: usize, buf: &[u8]) -> usize
+    ensures { λ r. ⌜ r ≡ min n (length (now (buf .entry))) ⌝ }
+    ensures { λ r. ⌜ r ≤ length (now (buf .entry)) ⌝ }
+    ensures { λ r. ⌜ r ≡ length (take r (now (buf .entry))) ⌝ }
 {
-    let q = n / p;
-    let r = n % p;
-    if p < 2 * r + q % 2 {
-        return q + 1;
-    }
-    q
+    if n < buf.len() { n } else { buf.len() }
 }
 
-// The float of significand m and exponent field e, times t, to the nearest whole number.
-fn units(m: u64, e: u64, t: u64) -> u64
-    requires { ⌜ m < 2 ^ 24 ⌝ }
-    requires { ⌜ e < 176 ⌝ }
-    requires { ⌜ t < 2 ^ 10 ⌝ }
-    ensures { λ r. ⌜ r ≡ meant·units m e t ⌝ }
+// a + b, or the largest number.
+pub fn plus(a: usize, b: usize) -> usize
+    ensures { λ r. ⌜ r ≡ min (a + b) (2 ^ 64 - 1) ⌝ }
 {
-    let n = m * t;
-    if e < 150 {
-        if e < 100 {
-            return 0;
-        }
-        return nearest(n, 1 << (150 - e));
+    if a <= usize::MAX - b {
+        a + b
+    } else {
+        usize::MAX
     }
-    n << (e - 150)
+}
+
+// a - b, or 0.
+fn less(a: usize, b: usize) -> usize
+    ensures { λ r. ⌜ r ≡ a - b ⌝ }
+{
+    if b < a { a - b } else { 0 }
 }
 
 pub fn put(out: &mut [u8], at: usize, b: u8) -> usize
+    ensures { λ r. ⌜ Wrote (now (out .entry)) at (b ∷ []) (now (out .exit)) r ⌝ }
     ensures { λ r. ⌜ r ≤ length (now (out .entry)) ⌝ }
 {
     if at < out.len() {
@@ -50,6 +51,7 @@ pub fn put(out: &mut [u8], at: usize, b: u8) -> usize
 }
 
 pub fn text(out: &mut [u8], at: usize, s: &[u8]) -> usize
+    ensures { λ r. ⌜ Wrote (now (out .entry)) at (now (s .entry)) (now (out .exit)) r ⌝ }
     ensures { λ r. ⌜ r ≤ length (now (out .entry)) ⌝ }
 {
     let mut to = inside(at, out);
@@ -63,247 +65,30 @@ pub fn text(out: &mut [u8], at: usize, s: &[u8]) -> usize
 
 // n times the byte b.
 pub fn fill(out: &mut [u8], at: usize, b: u8, n: usize) -> usize
+    ensures { λ r. ⌜ Wrote (now (out .entry)) at (replicate n b) (now (out .exit)) r ⌝ }
     ensures { λ r. ⌜ r ≤ length (now (out .entry)) ⌝ }
 {
     let mut to = inside(at, out);
-    let mut left = n;
-    while left > 0 {
+    let mut i = 0usize;
+    while i < n {
         to = put(out, to, b);
-        left -= 1;
+        i += 1;
     }
     to
 }
 
 // s with spaces before it, up to width columns in all.
 pub fn right(out: &mut [u8], at: usize, s: &[u8], width: usize) -> usize
+    ensures { λ r. ⌜ Wrote (now (out .entry)) at (rightIn width (now (s .entry))) (now (out .exit)) r ⌝ }
     ensures { λ r. ⌜ r ≤ length (now (out .entry)) ⌝ }
 {
-    if s.len() < width {
-        let to = fill(out, at, b' ', width - s.len());
-        return text(out, to, s);
-    }
-    text(out, at, s)
+    let to = fill(out, at, b' ', less(width, s.len()));
+    text(out, to, s)
 }
 
-fn digit(d: u64) -> u8
-    requires { ⌜ d < 10 ⌝ }
-{
-    48 + d as u8
-}
-
-// A point before place i, where there is to be one; where the text now begins.
-fn mark(room: &mut [u8; 32], i: usize, yes: bool) -> usize
-    requires { ⌜ 2 < i ⌝ }
-    requires { ⌜ i ≤ 32 ⌝ }
-    ensures { λ r. ⌜ r ≤ i ⌝ }
-    ensures { λ r. ⌜ i ≤ r + 1 ⌝ }
-{
-    if yes {
-        room[i - 1] = b'.';
-        return i - 1;
-    }
-    i
-}
-
-// The digits of n at the end of room, with a point before the last `places`; where they begin.
-fn spell(n: u64, places: usize, room: &mut [u8; 32]) -> usize
-    ensures { λ r. ⌜ r ≤ 32 ⌝ }
-{
-    let mut i = 32usize;
-    let mut k = 0usize;
-    let mut rest = n;
-    while i > 2 {
-        if rest == 0 {
-            if k > places {
-                return i;
-            }
-        }
-        let j = mark(room, i, (k == places) & (k > 0));
-        room[j - 1] = digit(rest % 10);
-        i = j - 1;
-        rest = rest / 10;
-        k += 1;
-    }
-    i
-}
-
-fn power(places: usize) -> u64
-    ensures { λ r. ⌜ r < 2 ^ 10 ⌝ }
-{
-    if places == 0 {
-        1
-    } else if places == 1 {
-        10
-    } else if places == 2 {
-        100
-    } else {
-        1000
-    }
-}
-
-// How many digits n has, 1 at least, 20 at most.
-fn size(n: u64) -> usize
-    ensures { λ r. ⌜ r ≤ 21 ⌝ }
-{
-    let mut k = 1usize;
-    let mut rest = n / 10;
-    while k < 20 {
-        if rest == 0 {
-            return k;
-        }
-        rest = rest / 10;
-        k += 1;
-    }
-    k
-}
-
-// The columns of n with a point before the last `places` digits, and a minus.
-fn columns(n: u64, places: usize, below: bool) -> usize {
-    let digits = size(n);
-    let mut all = digits;
-    if digits <= places {
-        all = plus(places, 1);
-    }
-    if places > 0 {
-        all = plus(all, 1);
-    }
-    if below & (n > 0) {
-        all = plus(all, 1);
-    }
-    all
-}
-
-fn scaled(m: u64, e: u64, places: usize) -> u64
-    requires { ⌜ m < 2 ^ 24 ⌝ }
-    requires { ⌜ e < 176 ⌝ }
-{
-    units(m, e, power(places))
-}
-
-// The most decimals, up to `places`, with which it fits in `width` columns; 9 where none do.
-fn decimals(m: u64, e: u64, below: bool, places: usize, width: usize) -> usize
-    requires { ⌜ m < 2 ^ 24 ⌝ }
-    requires { ⌜ e < 176 ⌝ }
-{
-    let mut left = places;
-    while left > 0 {
-        if columns(scaled(m, e, left), left, below) <= width {
-            return left;
-        }
-        left -= 1;
-    }
-    if columns(scaled(m, e, 0), 0, below) <= width {
-        return 0;
-    }
-    9
-}
-
-// `>` or `<-` and nines to the width: what is too long for its columns.
-fn bound(out: &mut [u8], at: usize, below: bool, width: usize) -> usize
-    ensures { λ r. ⌜ r ≤ length (now (out .entry)) ⌝ }
-{
-    if below {
-        let a = text(out, at, b"<-");
-        return fill(out, a, b'9', less(width, 2));
-    }
-    let a = text(out, at, b">");
-    fill(out, a, b'9', less(width, 1))
-}
-
-fn less(a: usize, b: usize) -> usize {
-    if b < a { a - b } else { 0 }
-}
-
-// A float by its bits, with `places` decimals (3 at most) or as many as fit, in at most `width` columns; right in them where `pad`.
-pub fn float(out: &mut [u8], at: usize, w: u32, places: usize, width: usize, pad: bool) -> usize
-    ensures { λ r. ⌜ r ≤ length (now (out .entry)) ⌝ }
-{
-    let least = if pad { width } else { 0 };
-    let m = (w % 0x80_0000) as u64;
-    let e = (w / 0x80_0000 % 0x100) as u64;
-    let below = w >= 0x8000_0000;
-    if e == 255 {
-        return named(out, at, m > 0, below, least);
-    }
-    if e > 175 {
-        return bound(out, at, below, width);
-    }
-    if e == 0 {
-        return number(out, at, 0, places, below, least);
-    }
-    let p = decimals(m + 0x80_0000, e, below, places, width);
-    if p == 9 {
-        return bound(out, at, below, width);
-    }
-    number(out, at, scaled(m + 0x80_0000, e, p), p, below, least)
-}
-
-fn named(out: &mut [u8], at: usize, nan: bool, below: bool, width: usize) -> usize
-    ensures { λ r. ⌜ r ≤ length (now (out .entry)) ⌝ }
-{
-    if nan {
-        return right(out, at, b"NaN", width);
-    }
-    if below {
-        return right(out, at, b"-inf", width);
-    }
-    right(out, at, b"inf", width)
-}
-
-fn number(out: &mut [u8], at: usize, n: u64, places: usize, below: bool, width: usize) -> usize
-    ensures { λ r. ⌜ r ≤ length (now (out .entry)) ⌝ }
-{
-    let mut room = [b' '; 32];
-    let from = spell(n, places, &mut room);
-    let start = sign(&mut room, from, below & (n > 0));
-    tail(out, at, &room, start, width)
-}
-
-// A minus before place i, where there is to be one; where the text now begins.
-fn sign(room: &mut [u8; 32], i: usize, yes: bool) -> usize {
-    if yes {
-        if i > 0 {
-            if i <= 32 {
-                room[i - 1] = b'-';
-                return i - 1;
-            }
-        }
-    }
-    i
-}
-
-// room from place i on, right in width columns.
-fn tail(out: &mut [u8], at: usize, room: &[u8; 32], i: usize, width: usize) -> usize
-    ensures { λ r. ⌜ r ≤ length (now (out .entry)) ⌝ }
-{
-    let whole = &room[..];
-    if i <= whole.len() {
-        return right(out, at, &whole[i..], width);
-    }
-    inside(at, out)
-}
-
-// How many of buf's bytes n counts: n, or all of them.
-pub fn inside(n: usize, buf: &[u8]) -> usize
-    ensures { λ r. ⌜ r ≤ length (now (buf .entry)) ⌝ }
-    ensures { λ r. ⌜ r ≡ length (take r (now (buf .entry))) ⌝ }
-{
-    if n < buf.len() { n } else { buf.len() }
-}
-
-// A whole number of tenths, with its decimal where that is not 0.
-fn tenths(out: &mut [u8], at: usize, n: u32) -> usize
-    ensures { λ r. ⌜ r ≤ length (now (out .entry)) ⌝ }
-{
-    if n % 10 == 0 {
-        return number(out, at, (n / 10) as u64, 0, false, 0);
-    }
-    number(out, at, n as u64, 1, false, 0)
-}
-
-// The hex digit of d, in upper case.
-fn glyph(d: u32) -> u8
+fn glyph(d: u64) -> u8
     requires { ⌜ d < 16 ⌝ }
+    ensures { λ r. ⌜ r ≡ meant.glyph d ⌝ }
 {
     if d < 10 {
         return 48 + d as u8;
@@ -311,40 +96,153 @@ fn glyph(d: u32) -> u8
     55 + d as u8
 }
 
-// The eight hex digits of a word.
-fn hex(out: &mut [u8], at: usize, w: u32) -> usize
+// The last k digits of n.
+fn digits(out: &mut [u8], at: usize, base: u64, k: usize, n: u64) -> usize
+    requires { ⌜ 0 < base ⌝ }
+    requires { ⌜ base ≤ 16 ⌝ }
+    ensures { λ r. ⌜ Wrote (now (out .entry)) at (meant.digits base k n) (now (out .exit)) r ⌝ }
     ensures { λ r. ⌜ r ≤ length (now (out .entry)) ⌝ }
 {
-    let s = [
-        glyph(w / 0x1000_0000 % 0x10),
-        glyph(w / 0x100_0000 % 0x10),
-        glyph(w / 0x10_0000 % 0x10),
-        glyph(w / 0x1_0000 % 0x10),
-        glyph(w / 0x1000 % 0x10),
-        glyph(w / 0x100 % 0x10),
-        glyph(w / 0x10 % 0x10),
-        glyph(w % 0x10),
-    ];
-    text(out, at, &s)
+    if k == 0 {
+        return inside(at, out);
+    }
+    let to = digits(out, at, base, k - 1, n / base);
+    put(out, to, glyph(n % base))
+}
+
+fn minus(out: &mut [u8], at: usize, below: bool, n: u64) -> usize
+    ensures { λ r. ⌜ Wrote (now (out .entry)) at (meant.minus below n) (now (out .exit)) r ⌝ }
+{
+    if below {
+        if n > 0 {
+            return put(out, at, b'-');
+        }
+        return inside(at, out);
+    }
+    inside(at, out)
+}
+
+// A point and the last `places` digits of n, 3 at most.
+fn point(out: &mut [u8], at: usize, places: usize, n: u64) -> usize
+    ensures { λ r. ⌜ Wrote (now (out .entry)) at (meant.point (min places 3) n) (now (out .exit)) r ⌝ }
+{
+    if places == 0 {
+        return inside(at, out);
+    }
+    let to = put(out, at, b'.');
+    digits(out, to, 10, rounding::up_to_three(places), n)
+}
+
+// n units of 10 ^ -places, 3 places at most.
+fn fixed(out: &mut [u8], at: usize, places: usize, n: u64) -> usize
+    ensures { λ r. ⌜ Wrote (now (out .entry)) at (meant.fixed (min places 3) n) (now (out .exit)) r ⌝ }
+    ensures { λ r. ⌜ r ≤ length (now (out .entry)) ⌝ }
+{
+    let whole = n / rounding::power(places);
+    let to = digits(out, at, 10, rounding::size(whole), whole);
+    point(out, to, places, n)
+}
+
+fn number(out: &mut [u8], at: usize, below: bool, n: u64, places: usize, least: usize) -> usize
+    ensures { λ r. ⌜ Wrote (now (out .entry)) at (rightIn least (signed below (min places 3) n)) (now (out .exit)) r ⌝ }
+{
+    let a = fill(
+        out,
+        at,
+        b' ',
+        less(least, rounding::columns(below, n, places)),
+    );
+    let b = minus(out, a, below, n);
+    fixed(out, b, places, n)
+}
+
+// `>` or `<-` and nines to the width: what is too long for its columns.
+fn bound(out: &mut [u8], at: usize, below: bool, width: usize) -> usize
+    ensures { λ r. ⌜ Wrote (now (out .entry)) at (boundText below width) (now (out .exit)) r ⌝ }
+{
+    if below {
+        let a = put(out, at, b'<');
+        let b = put(out, a, b'-');
+        return fill(out, b, b'9', less(width, 2));
+    }
+    let a = put(out, at, b'>');
+    fill(out, a, b'9', less(width, 1))
+}
+
+fn named(out: &mut [u8], at: usize, nan: bool, below: bool, least: usize) -> usize
+    ensures { λ r. ⌜ Wrote (now (out .entry)) at (rightIn least (namedText nan below)) (now (out .exit)) r ⌝ }
+{
+    if nan {
+        return right(out, at, b"NaN", least);
+    }
+    if below {
+        return right(out, at, b"-inf", least);
+    }
+    right(out, at, b"inf", least)
+}
+
+// What is to be shown of a float, right in the `least` columns.
+fn show(out: &mut [u8], at: usize, s: Shown, width: usize, least: usize) -> usize
+    requires { ⌜ least ≤ width ⌝ }
+    ensures { λ r. ⌜ Wrote (now (out .entry)) at (rightIn least (textOf width s)) (now (out .exit)) r ⌝ }
+{
+    match s {
+        Shown::Named(nan, below) => named(out, at, nan, below, least),
+        Shown::Bound(below) => bound(out, at, below, width),
+        Shown::Number(below, n, places) => number(out, at, below, n, places, least),
+    }
+}
+
+fn least(width: usize, pad: bool) -> usize
+    ensures { λ r. ⌜ r ≡ cond pad width 0 ⌝ }
+    ensures { λ r. ⌜ r ≤ width ⌝ }
+{
+    if pad {
+        return width;
+    }
+    0
+}
+
+// A float by its bits, with `places` decimals (3 at most) or as many as fit, in at most `width` columns; right in them where `pad`.
+pub fn float(out: &mut [u8], at: usize, w: u32, places: usize, width: usize, pad: bool) -> usize
+    ensures { λ r. ⌜ Wrote (now (out .entry)) at (rightIn (cond pad width 0) (floatText w places width)) (now (out .exit)) r ⌝ }
+    ensures { λ r. ⌜ r ≤ length (now (out .entry)) ⌝ }
+{
+    show(
+        out,
+        at,
+        rounding::rounded(w, places, width),
+        width,
+        least(width, pad),
+    )
 }
 
 // A whole number, right in width columns.
 pub fn whole(out: &mut [u8], at: usize, n: usize, width: usize) -> usize
+    ensures { λ r. ⌜ Wrote (now (out .entry)) at (rightIn width (decimalText n)) (now (out .exit)) r ⌝ }
     ensures { λ r. ⌜ r ≤ length (now (out .entry)) ⌝ }
 {
-    let mut room = [b' '; 32];
-    let from = spell(n as u64, 0, &mut room);
-    tail(out, at, &room, from, width)
+    let k = rounding::size(n as u64);
+    let to = fill(out, at, b' ', less(width, k));
+    digits(out, to, 10, k, n as u64)
 }
 
-// a + b, or the largest number.
-pub fn plus(a: usize, b: usize) -> usize
-    ensures { λ r. ⌜ a ≤ r ⌝ }
-    ensures { λ r. ⌜ b ≤ r ⌝ }
+// A whole number of tenths, with its decimal where that is not 0.
+pub fn tenths(out: &mut [u8], at: usize, n: u32) -> usize
+    ensures { λ r. ⌜ Wrote (now (out .entry)) at (tenthsText n) (now (out .exit)) r ⌝ }
+    ensures { λ r. ⌜ r ≤ length (now (out .entry)) ⌝ }
 {
-    if a <= usize::MAX - b {
-        a + b
-    } else {
-        usize::MAX
+    if n % 10 == 0 {
+        let t = (n / 10) as u64;
+        return digits(out, at, 10, rounding::size(t), t);
     }
+    fixed(out, at, 1, n as u64)
+}
+
+// The eight hex digits of a word.
+pub fn hex(out: &mut [u8], at: usize, w: u32) -> usize
+    ensures { λ r. ⌜ Wrote (now (out .entry)) at (hexText w) (now (out .exit)) r ⌝ }
+    ensures { λ r. ⌜ r ≤ length (now (out .entry)) ⌝ }
+{
+    digits(out, at, 16, 8, w as u64)
 }

@@ -1,8 +1,12 @@
 // A text with fields: `@`, a letter for the value (A the first), how it is shown, and the columns.
 // How: a digit for the decimals of a float; w a whole number; t a whole number of tenths, `12` or `12.3`; x eight hex digits.
-// Columns: 0 to 9, `:` for 10 and so on, the number right in them; a to i for at most 1 to 9 and no spaces; t and x have none, any byte stands there.
+// Columns: 0 to 9, `:` for 10 and so on, the number right in them; a to i for at most 1 to 9 and no spaces. With t and x any byte stands there.
+ghost use mathlib.Core.Path.{_≡_};
 ghost use Prim.Native.Nat.{_<_, _≤_};
 ghost use lib.ListN.{length};
+ghost use Rattle.decimal.specs.Wrote.{Wrote};
+ghost use Rattle.decimal.specs.Filled.{countOf, valueOf, fieldText, filledText};
+ghost use Rattle.decimal.specs.Requires.{Advanced};
 use crate::float;
 use crate::hex;
 use crate::inside;
@@ -17,7 +21,9 @@ pub struct Step {
 }
 
 // How far b is above `low`, or 0; 31 at most.
-fn count(b: u8, low: u8) -> usize {
+fn count(b: u8, low: u8) -> usize
+    ensures { λ r. ⌜ r ≡ countOf b low ⌝ }
+{
     if b < low {
         return 0;
     }
@@ -28,7 +34,9 @@ fn count(b: u8, low: u8) -> usize {
 }
 
 // Value number b, or 0.
-fn value(v: &[u32], b: u8) -> u32 {
+fn value(v: &[u32], b: u8) -> u32
+    ensures { λ r. ⌜ r ≡ valueOf (now (v .entry)) b ⌝ }
+{
     if b < b'A' {
         return 0;
     }
@@ -40,7 +48,7 @@ fn value(v: &[u32], b: u8) -> u32 {
 }
 
 fn field(v: &[u32], which: u8, how: u8, wide: u8, out: &mut [u8], to: usize) -> usize
-    ensures { λ r. ⌜ r ≤ length (now (out .entry)) ⌝ }
+    ensures { λ r. ⌜ Wrote (now (out .entry)) to (fieldText (now (v .entry)) which how wide) (now (out .exit)) r ⌝ }
 {
     let w = value(v, which);
     if how == b't' {
@@ -58,11 +66,10 @@ fn field(v: &[u32], which: u8, how: u8, wide: u8, out: &mut [u8], to: usize) -> 
     float(out, to, w, count(how, b'0'), count(wide, b'0'), true)
 }
 
+// One field, or one byte that stands for itself.
 fn advance(t: &[u8], i: usize, v: &[u32], out: &mut [u8], to: usize) -> Step
     requires { ⌜ i < length (now t) ⌝ }
-    ensures { λ r. ⌜ i < r .next ⌝ }
-    ensures { λ r. ⌜ r .next ≤ length (now (t .entry)) ⌝ }
-    ensures { λ r. ⌜ r .to ≤ length (now (out .entry)) ⌝ }
+    ensures { λ r. ⌜ Advanced (now (t .entry)) (now (v .entry)) (now (out .entry)) i to (now (out .exit)) (r .next) (r .to) ⌝ }
 {
     if t[i] == b'@' {
         if t.len() - i > 3 {
@@ -72,6 +79,11 @@ fn advance(t: &[u8], i: usize, v: &[u32], out: &mut [u8], to: usize) -> Step
                 next: i + 4,
             };
         }
+        let end = put(out, to, t[i]);
+        return Step {
+            to: end,
+            next: i + 1,
+        };
     }
     let end = put(out, to, t[i]);
     Step {
@@ -80,7 +92,9 @@ fn advance(t: &[u8], i: usize, v: &[u32], out: &mut [u8], to: usize) -> Step
     }
 }
 
+// The text t with the values v in its fields.
 pub fn filled(t: &[u8], v: &[u32], out: &mut [u8], at: usize) -> usize
+    ensures { λ r. ⌜ Wrote (now (out .entry)) at (filledText (now (v .entry)) (now (t .entry))) (now (out .exit)) r ⌝ }
     ensures { λ r. ⌜ r ≤ length (now (out .entry)) ⌝ }
 {
     let mut i = 0usize;

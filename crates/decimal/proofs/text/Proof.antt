@@ -1,14 +1,15 @@
--- `decimal::text` is safe and ends: the measure is what is left of `s`. Assumes nothing.
-use Prim.Native.Nat.{_≤_, _-_}
-use mathlib.Core.Path.{_≡_}
-use native.Mathlib.Omega.{arith}
+use Rattle.decimal.proofs.WroteLaws.{Front, wrote-none, wrote-next, wrote-as, wrote-long, wrote-inside}
+use lib.Seq.{take-all}
+use lib.ListN.{length, take}
 use borrow.Author.Needs.{needs}
-use lib.ListN.{length}
+use native.Mathlib.Omega.{arith}
+use mathlib.Core.Path.{_≡_, refl, sym, ap, _∙_}
+use Prim.Native.Nat.{ℕ, _+_, _-_, _≤_}
 use Rattle.decimal.proofs.text.Statement.{statement}
 use Rattle.decimal.proofs.text.Tie as tie
 
 abbrev Inv-loop : tie.InvT-loop
-Inv-loop out₀ at s to₀ i₀ out to i = (i ≤ length s) × (length out ≡ length out₀) × (to ≤ length out₀)
+Inv-loop out₀ at s to₀ i₀ out to i = Front out₀ at s out to i
 
 abbrev μ-loop : tie.MeasureT-loop
 μ-loop out₀ at s to₀ i₀ out to i = length s - i
@@ -17,29 +18,43 @@ inside-requires : tie.Need-inside-requires Inv-loop μ-loop
 inside-requires c κs = search needs
 
 loop-holds : tie.Need-loop-holds Inv-loop μ-loop
-loop-holds c = search needs
+loop-holds c = record { within = omega arith; front = wrote-none _ _ _ (c .inside .ensures .0) }
 
 shared-slice-read-put : tie.Need-shared-slice-read-put Inv-loop μ-loop
-shared-slice-read-put c = omega arith
+shared-slice-read-put c = search needs
 
 put-requires : tie.Need-put-requires Inv-loop μ-loop
 put-requires c κs = search needs
 
 add-i : tie.Need-add-i Inv-loop μ-loop
-add-i c = omega arith
+add-i c = search needs
 
 loop-less : tie.Need-loop-less Inv-loop μ-loop
-loop-less c = omega arith
+loop-less c = search needs
 
 loop-again : tie.Need-loop-again Inv-loop μ-loop
-loop-again c = search needs
+loop-again c = let inv = c .before .before .before .before .before .before .loop .inv in record { within = omega arith; front = wrote-next _ _ (inv .front) (c .before .before .before .before .before .loop-test .taken) (c .before .before .put .ensures .0) }
 
 same-length : tie.Need-same-length Inv-loop μ-loop
-same-length c = search needs
+same-length c = wrote-long (c .before .loop .inv .front)
 
 returns : tie.Need-returns Inv-loop μ-loop
-returns c = search needs
+returns c =
+    let all = wrote-as (take-all _ _ (c .loop-test .left)) (c .before .loop .inv .front) in
+    (all, wrote-inside all)
 
 pub text-spec : {M : Type 1} → statement M
 text-spec =
-    tie.close (tie.spec Inv-loop μ-loop inside-requires loop-holds shared-slice-read-put put-requires add-i loop-less loop-again same-length returns)
+    tie.close
+    (tie.spec
+    Inv-loop
+    μ-loop
+    inside-requires
+    loop-holds
+    shared-slice-read-put
+    put-requires
+    add-i
+    loop-less
+    loop-again
+    same-length
+    returns)

@@ -7,9 +7,9 @@ use borrow.Author.Tests.{lt-ltb, le-ltb}
 use native.Mathlib.Omega.{arith}
 use native.Mathlib.Nat.{mod-lt, div-le-self}
 use lib.Dec.{ltb}
-use Rattle.decimal.specs.Decimals.{nearest}
-use Rattle.decimal.proofs.nearest.Statement.{statement}
-use Rattle.decimal.proofs.nearest.Tie as tie
+use Rattle.rounding.specs.Decimals.{nearest}
+use Rattle.rounding.proofs.nearest.Statement.{statement}
+use Rattle.rounding.proofs.nearest.Tie as tie
 
 div-q : tie.Need-div-q
 div-q c = search needs

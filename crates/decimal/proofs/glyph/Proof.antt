@@ -1,0 +1,29 @@
+use borrow.Author.Tests.{lt-ltb, le-ltb}
+use native.Mathlib.Omega.{arith}
+use mathlib.Core.Path.{_≡_, refl, sym, ap, _∙_}
+use Prim.Native.Nat.{ℕ, _+_, _-_, _≤_}
+use borrow.Author.Needs.{needs}
+use Rattle.decimal.proofs.glyph.Statement.{statement}
+use Rattle.decimal.proofs.glyph.Tie as tie
+
+cast-result : tie.Need-cast-result
+cast-result c = search needs
+
+add-result : tie.Need-add-result
+add-result c = search needs
+
+returns : tie.Need-returns
+returns c = rw (lt-ltb (c .before .args .d) 10 (c .if1 .taken))
+
+cast-result-2 : tie.Need-cast-result-2
+cast-result-2 c = search needs
+
+add-result-2 : tie.Need-add-result-2
+add-result-2 c = search needs
+
+returns-2 : tie.Need-returns-2
+returns-2 c = rw (le-ltb (c .before .args .d) 10 (c .if1 .left))
+
+pub glyph-spec : {M : Type 1} → statement M
+glyph-spec =
+    tie.close (tie.spec cast-result add-result returns cast-result-2 add-result-2 returns-2)
