@@ -1,7 +1,7 @@
 -- What the sheet and the drawing read of the bytes of a job and of its answer.
 use Prim.Native.Nat.{ℕ, zero, suc, _+_, _*_}
 use Prim.Native.String.{String}
-use mathlib.Core.Bool.{Bool, _&&_, cond}
+use mathlib.Core.Bool.{Bool, true, false, _&&_, cond}
 use mathlib.Core.List.{List}
 use lib.Dec.{eqb, leb, ltb}
 use lib.Ieee.{Float, binary32, toBits, le}
@@ -34,6 +34,11 @@ slotBy layer angle amind = cond (eqb layer 5) Empty (cond (le amind angle) Ray T
 -- slot s of an answer, counted from 0; past the last it is empty
 unfoldable pub slotOf : List ℕ → List ℕ → ℕ → State
 slotOf job answer s = cond (ltb s slots) (slotBy (word answer (ofAnswer "itmod" + s)) (f32 (word answer (ofAnswer "delmod" + s))) (f32 (word job (ofJob "amind")))) Empty
+
+abbrev pub isEmpty : State → Bool
+isEmpty Empty = true
+isEmpty Ray = false
+isEmpty TooLow = false
 
 abbrev pub isRay : State → ℕ
 isRay Empty = 0

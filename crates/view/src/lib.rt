@@ -5,7 +5,7 @@ ghost use lib.Ieee.{lt, le};
 ghost use Rattle.arith.specs.Floats.{f32};
 ghost use Rattle.job.specs.Layout as meant;
 ghost use Rattle.job.specs.Answer.{slots};
-ghost use Rattle.view.specs.View.{askedOf, criticalOf, slotOf, isRay, raysBefore};
+ghost use Rattle.view.specs.View.{askedOf, criticalOf, slotOf, isEmpty, isRay, raysBefore};
 use job::layout;
 
 // Words of the job that its points share, counted from the job's first.
@@ -83,6 +83,16 @@ pub fn slot(job: &[u8], answer: &[u8], s: usize) -> State
         return State::Ray;
     }
     State::TooLow
+}
+
+pub fn is_empty(s: State) -> bool
+    ensures { λ r. ⌜ r ≡ isEmpty s ⌝ }
+{
+    match s {
+        State::Empty => true,
+        State::Ray => false,
+        State::TooLow => false,
+    }
 }
 
 // 1 for a ray, else 0.
