@@ -1,10 +1,10 @@
 // The verdict on a job and its answer: its case, and its two lines of text.
+mod lines;
+
+pub use lines::first;
+pub use lines::second;
 ghost use mathlib.Core.Path.{_≡_};
-ghost use Prim.Native.Nat.{_≤_};
-ghost use lib.ListN.{length};
 ghost use Rattle.verdict.specs.Verdict.{verdictOf};
-use decimal::filled;
-use decimal::text;
 use job::layout;
 
 // Why the drive tilts or stays parked, in the order in which the cases are tried.
