@@ -1,0 +1,150 @@
+// The title, the verdict, and what was asked.
+ghost use Prim.Native.Nat.{_≤_};
+ghost use lib.ListN.{length};
+use decimal::fill;
+use decimal::filled;
+use decimal::put;
+use decimal::text;
+use job::layout;
+use view::above;
+use view::critical;
+use view::word;
+
+// The columns of a line, those of a name, and those of a longer name's end behind `...`.
+const LINE: usize = 78;
+
+const NAME: usize = 48;
+
+const NAME_END: usize = 45;
+
+// The bits of the angles that findf gives a layer that is never pierced, 89.9, or not met, 90; 0 is that of one always pierced.
+const NEVER: u32 = 0x42b3_cccd;
+
+const NOT_MET: u32 = 0x42b4_0000;
+
+fn plain(b: u8) -> u8 {
+    if b < 32 {
+        return b'?';
+    }
+    if b > 126 {
+        return b'?';
+    }
+    b
+}
+
+fn plains(s: &[u8], out: &mut [u8], at: usize) -> usize
+    ensures { λ r. ⌜ r ≤ length (now (out .entry)) ⌝ }
+{
+    let mut to = decimal::inside(at, out);
+    let mut i = 0usize;
+    while i < s.len() {
+        to = put(out, to, plain(s[i]));
+        i += 1;
+    }
+    to
+}
+
+fn less(a: usize, b: usize) -> usize {
+    if b < a { a - b } else { 0 }
+}
+
+// The name right in so many columns.
+fn named(columns: usize, name: &[u8], out: &mut [u8], at: usize) -> usize
+    ensures { λ r. ⌜ r ≤ length (now (out .entry)) ⌝ }
+{
+    if name.len() > NAME {
+        let a = fill(out, at, b' ', less(columns, NAME));
+        let b = text(out, a, b"...");
+        return plains(&name[name.len() - NAME_END..], out, b);
+    }
+    let a = fill(out, at, b' ', less(columns, name.len()));
+    plains(name, out, a)
+}
+
+fn rule(out: &mut [u8], at: usize) -> usize
+    ensures { λ r. ⌜ r ≤ length (now (out .entry)) ⌝ }
+{
+    let a = fill(out, at, b'-', LINE);
+    text(out, a, b"\n")
+}
+
+pub(crate) fn title(heading: &[u8], name: &[u8], out: &mut [u8], at: usize) -> usize
+    ensures { λ r. ⌜ r ≤ length (now (out .entry)) ⌝ }
+{
+    let a = text(out, at, heading);
+    let b = named(less(LINE, heading.len()), name, out, a);
+    let c = text(out, b, b"\n");
+    rule(out, c)
+}
+
+// The verdict's two lines, and the rule under them.
+pub(crate) fn said(job: &[u8], answer: &[u8], out: &mut [u8], at: usize) -> usize
+    ensures { λ r. ⌜ r ≤ length (now (out .entry)) ⌝ }
+{
+    let a = text(out, at, b"  ");
+    let b = verdict::first(job, answer, out, a);
+    let c = text(out, b, b"\n  ");
+    let d = verdict::second(job, answer, out, c);
+    let e = text(out, d, b"\n");
+    rule(out, e)
+}
+
+// A layer's critical frequency and the angle above which it is pierced.
+fn pierced(v: &[u32; 2], out: &mut [u8], at: usize) -> usize
+    ensures { λ r. ⌜ r ≤ length (now (out .entry)) ⌝ }
+{
+    if v[1] == NEVER {
+        return filled(b"@A39           never\n", v, out, at);
+    }
+    if v[1] == NOT_MET {
+        return filled(b"@A39         not met\n", v, out, at);
+    }
+    if v[1] == 0 {
+        return filled(b"@A39          always\n", v, out, at);
+    }
+    filled(b"@A39   @B3=\n", v, out, at)
+}
+
+fn layer(job: &[u8], answer: &[u8], l: usize, out: &mut [u8], at: usize) -> usize
+    ensures { λ r. ⌜ r ≤ length (now (out .entry)) ⌝ }
+{
+    let v = [
+        critical(job, l),
+        word(answer, decimal::plus(layout::DELPEN, l)),
+    ];
+    if l == 1 {
+        if !above(v[0], 0) {
+            return text(out, at, b"     none     no F1 layer\n");
+        }
+    }
+    pierced(&v, out, at)
+}
+
+fn upper(job: &[u8], answer: &[u8], out: &mut [u8], at: usize) -> usize
+    ensures { λ r. ⌜ r ≤ length (now (out .entry)) ⌝ }
+{
+    let v = [
+        word(job, view::FREQ),
+        view::asked(job),
+        word(job, view::AMIND),
+    ];
+    let a = filled(
+        b"\n  Frequency     @A39 MHz          Layer     Critical   Pierced above\n  Asked hop     @B19 km                          MHz             deg\n  Minimum angle @C39 deg          E        ",
+        &v,
+        out,
+        at,
+    );
+    layer(job, answer, 0, out, a)
+}
+
+// What was asked, and the layers at the point.
+pub(crate) fn asked(job: &[u8], answer: &[u8], out: &mut [u8], at: usize) -> usize
+    ensures { λ r. ⌜ r ≤ length (now (out .entry)) ⌝ }
+{
+    let v = [word(job, view::NANG), word(job, layout::K)];
+    let a = upper(job, answer, out, at);
+    let b = filled(b"  Table angles  @Aw9 of 40        F1       ", &v, out, a);
+    let c = layer(job, answer, 1, out, b);
+    let d = filled(b"  Point         @Bw9 of 0 to 4    F2       ", &v, out, c);
+    layer(job, answer, 2, out, d)
+}
