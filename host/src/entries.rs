@@ -245,6 +245,22 @@ unsafe extern "C" {
         ifob: &[i32; 1200],
     ) -> Walked;
 
+    /// The same by the form that takes a `&mut`, over a local that it is lent.
+    #[link_name = "ray_findf_by_reference"]
+    pub safe fn findf_by_reference(
+        rfx: Reflectrix,
+        k: usize,
+        nang: usize,
+        freq: f32,
+        amind: f32,
+        fi: &[[f32; 3]; 5],
+        fvert: &[f32; 30],
+        hprim: &[f32; 30],
+        htrue: &[f32; 30],
+        afac: &[f32; 30],
+        ifob: &[i32; 1200],
+    ) -> Walked;
+
     /// The same into lent columns, with the figures by value.
     #[link_name = "ray_findf_into"]
     pub safe fn findf_into(
@@ -271,6 +287,16 @@ unsafe extern "C" {
     /// On a refusal the slots are as they were, and the counts 0.
     #[link_name = "ray_fdist"]
     pub safe fn fdist(m: HopModes, rfx: Reflectrix, ghop: f32, amind: f32, freq: f32) -> Searched;
+
+    /// The same by the form that takes a `&mut` and a `&`, over locals that it is lent.
+    #[link_name = "ray_fdist_by_reference"]
+    pub safe fn fdist_by_reference(
+        m: HopModes,
+        rfx: Reflectrix,
+        ghop: f32,
+        amind: f32,
+        freq: f32,
+    ) -> Searched;
 
     #[link_name = "ray_sin"]
     pub safe fn sin(x: f32) -> f32;

@@ -1,4 +1,4 @@
-//! fdist by value: jobs for it, and the check of one.
+//! fdist by value and by reference: jobs for it, and the check of one.
 
 use crate::con::RZ;
 use crate::entries::{self, FdistJob, HopModes, Reflectrix, Searched};
@@ -16,6 +16,11 @@ use crate::oracle::{self, as_it_comes, counted, counts, led};
 /// The library's fdist.
 pub fn ours(m: HopModes, job: &FdistJob) -> Searched {
     entries::fdist(m, job.rfx, job.ghop, job.amind, job.freq)
+}
+
+/// The library's fdist by reference.
+pub fn by_reference(m: HopModes, job: &FdistJob) -> Searched {
+    entries::fdist_by_reference(m, job.rfx, job.ghop, job.amind, job.freq)
 }
 
 #[cfg(oracle)]
@@ -47,27 +52,34 @@ pub fn led(m: HopModes, job: &FdistJob) -> Searched {
     Searched { m: led, ..counted }
 }
 
-/// Checks a job on used slots: the number by the limits, a refusal's slots as they were, accepted
-/// ones as the led Rust has them.
+/// Checks a job on used slots, by value and by reference: the number by the limits, a refusal's
+/// slots as they were, accepted ones as the led Rust has them.
 pub fn check(old: HopModes, job: &FdistJob, tally: &mut Tally) {
     let refusal = limits::fdist(job);
-    let s = ours(old, job);
     let FdistJob { ghop, amind, freq, .. } = *job;
     let at = || format!("ghop {ghop:e}, amind {amind:e}, freq {freq:e}");
-    assert_eq!(s.refusal, refusal, "{}", at());
     tally.refusals[refusal as usize] += 1;
-    if refusal > 0 {
-        assert_eq!((s.pairs, s.rays), (0, 0), "{}", at());
-        assert_eq!(s.m.difference(&old, floats::identical), None, "{}", at());
-        return;
-    }
-    assert!(s.pairs <= 44, "{}", at());
-    tally.add_search(s.pairs, s.rays);
     #[cfg(oracle)]
-    {
-        let expected = led(old, job);
-        assert_eq!(s.m.difference(&expected.m, floats::same), None, "{}", at());
-        assert_eq!((s.pairs, s.rays), (expected.pairs, expected.rays), "{}", at());
+    let expected = (refusal == 0).then(|| led(old, job));
+    let answers = [ours(old, job), by_reference(old, job)];
+    for s in &answers {
+        assert_eq!(s.refusal, refusal, "{}", at());
+        if refusal > 0 {
+            assert_eq!((s.pairs, s.rays), (0, 0), "{}", at());
+            assert_eq!(s.m.difference(&old, floats::identical), None, "{}", at());
+        }
+        assert!(s.pairs <= 44, "{}", at());
+        #[cfg(oracle)]
+        if let Some(expected) = &expected {
+            assert_eq!(s.m.difference(&expected.m, floats::same), None, "{}", at());
+            assert_eq!((s.pairs, s.rays), (expected.pairs, expected.rays), "{}", at());
+        }
+    }
+    if refusal == 0 {
+        tally.add_search(answers[0].pairs, answers[0].rays);
+    }
+    #[cfg(oracle)]
+    if let Some(expected) = &expected {
         tally.differences.add(&expected.m, &rust(as_it_comes::fdist, old, job));
     }
 }

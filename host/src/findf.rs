@@ -1,4 +1,4 @@
-//! findf by value: the check of a job, and jobs for it.
+//! findf by value and by reference: the check of a job, and jobs for it.
 
 mod jobs;
 pub use jobs::*;
@@ -19,6 +19,12 @@ use crate::oracle::{self, as_it_comes, counted, counts, led, AreaTables, IonoSta
 pub fn ours(rfx: Reflectrix, job: &FindfJob) -> Walked {
     let FindfJob { k, nang, freq, amind, fi, fvert, hprim, htrue, afac, ifob } = job;
     entries::findf(rfx, *k, *nang, *freq, *amind, fi, fvert, hprim, htrue, afac, ifob)
+}
+
+/// The library's findf by reference.
+pub fn by_reference(rfx: Reflectrix, job: &FindfJob) -> Walked {
+    let FindfJob { k, nang, freq, amind, fi, fvert, hprim, htrue, afac, ifob } = job;
+    entries::findf_by_reference(rfx, *k, *nang, *freq, *amind, fi, fvert, hprim, htrue, afac, ifob)
 }
 
 /// The library's findf into the columns of a record; the figures go in and come back by value.
@@ -74,7 +80,7 @@ pub fn led(rfx: Reflectrix, job: &FindfJob) -> Walked {
 pub type Walk = fn(Reflectrix, &FindfJob) -> Walked;
 
 /// The library's.
-pub const OURS: [Walk; 2] = [ours, ours_in_place];
+pub const OURS: [Walk; 3] = [ours, ours_in_place, by_reference];
 
 /// Checks a job on a used reflectrix, by each of `walks`: the number by the limits, a refusal's
 /// reflectrix as it was, an accepted one as the led Rust has it.

@@ -11,6 +11,7 @@ pub mod entries;
 pub mod exact;
 pub mod fdist;
 pub mod findf;
+pub mod fit;
 pub mod floats;
 pub mod guarded;
 pub mod job;
@@ -24,6 +25,7 @@ pub mod prng;
 pub mod record;
 #[cfg(oracle)]
 pub mod replay;
+pub mod samples;
 pub mod tally;
 
 // The sliced Rust reads `crate::perf`.

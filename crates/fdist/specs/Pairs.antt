@@ -3,7 +3,7 @@
 use Prim.Native.Nat.{ℕ, _+_}
 use mathlib.Core.Bool.{Bool, cond}
 use lib.Ieee.{Float, lt, le, eq}
-use Rattle.arith.specs.Floats.{_⊖_, f32, absOf}
+use Rattle.arith.specs.Floats.{_⊖_, absOf}
 use Rattle.arith.specs.Numbers.{0·001}
 use Rattle.fdist.specs.declared.pairs.Pair.{Pair}
 use Rattle.fdist.specs.declared.pairs.Pair.the-variants.{Nothing, Row, Spot}

@@ -7,7 +7,7 @@ use Prim.Native.Nat.{ℕ, suc, _-_, _*_}
 use lib.Dec.{leb}
 use lib.ListN.{getD}
 use lib.IntN.{ℤ}
-use lib.Ieee.{Float, nan, lt, le}
+use lib.Ieee.{nan, lt, le}
 use Rattle.arith.specs.Floats.{_⊖_}
 use Rattle.arith.specs.Numbers.{0·0, 89·99}
 use Rattle.arith.specs.Run.{count, iterate}

@@ -3,9 +3,8 @@
 use Prim.Native.Nat.{ℕ, zero, suc}
 use mathlib.Core.Bool.{Bool, true, false}
 use mathlib.Core.List.{List, [], _∷_}
-use lib.ListN.{getD, replicate}
-use lib.IntN.{ℤ}
-use lib.Ieee.{Float, nan, toUnsigned, neg}
+use lib.ListN.{replicate}
+use lib.Ieee.{Float, toUnsigned, neg}
 use Rattle.arith.specs.Floats.{_⊗_}
 use Rattle.arith.specs.Numbers.{0·0, 1·0, 1000·0, 10000·0}
 use Rattle.arith.specs.Run.{Next, run, until}

@@ -5,8 +5,8 @@ ghost use Prim.Native.Nat.{_≤_};
 ghost use mathlib.Core.Bool.{true};
 ghost use Rattle.limits.specs.Limits.{freqWithin};
 ghost use Rattle.findf.specs.Requires.{Entries, startedOf};
-ghost use Rattle.findf.specs.Inputs.{jobBy, inputsOf};
-ghost use Rattle.findf.specs.Findf.{jfhzOf, unlessOf, walkedOf, findfOf};
+ghost use Rattle.findf.specs.Inputs.{jobBy};
+ghost use Rattle.findf.specs.Findf.{jfhzOf, unlessOf, findfOf};
 ghost use Rattle.findf.specs.Lent.{reflectrixFrom, walkedFrom};
 
 mod checks;
@@ -17,9 +17,6 @@ mod skip;
 mod walk;
 
 use checks::Admission;
-use skip::Skip;
-use walk::Label;
-use walk::Walk;
 
 #[repr(C)]
 pub struct Reflectrix {
@@ -87,123 +84,6 @@ fn unless(dead: bool, x: f32) -> f32
     if dead { -1.0 } else { x }
 }
 
-// The walk from its start to Done, a row written in place at each fill.
-fn walk_rows(
-    delfx: &mut [f32; 45],
-    hpflx: &mut [f32; 45],
-    htflx: &mut [f32; 45],
-    gdflx: &mut [f32; 45],
-    fvflx: &mut [f32; 45],
-    afflx: &mut [f32; 45],
-    imode: &mut [u32; 45],
-    figures: Figures,
-    nang: usize,
-    freq: f32,
-    amind: f32,
-    jfhz: u32,
-    second: f32,
-    fc2: f32,
-    delpen: &[f32; 3],
-    fvert: &[f32; 30],
-    hprim: &[f32; 30],
-    htrue: &[f32; 30],
-    afac: &[f32; 30],
-    ifob: &[i32; 1200],
-) -> Outcome
-    requires { ⌜ Entries (now ifob) × ((nang ≤ 40) × (jfhz ≤ 99999)) ⌝ }
-    ensures { λ r. ⌜ walkedFrom (now (delfx .exit)) (now (hpflx .exit)) (now (htflx .exit)) (now (gdflx .exit)) (now (fvflx .exit)) (now (afflx .exit)) (now (imode .exit)) r ≡ walkedOf (inputsOf nang freq amind jfhz second fc2 (now (delpen .entry)) (now (fvert .entry)) (now (hprim .entry)) (now (htrue .entry)) (now (afac .entry)) (now (ifob .entry))) (reflectrixFrom (now (delfx .entry)) (now (hpflx .entry)) (now (htflx .entry)) (now (gdflx .entry)) (now (fvflx .entry)) (now (afflx .entry)) (now (imode .entry)) figures) ⌝ }
-{
-    let ang = &walk::ANG;
-    let mut ahead = correction::ahead_of(ang, 0);
-    let mut f = figures;
-    let mut w = Walk {
-        label: Label::Search,
-        ia: 0,
-        il: 1,
-        ih: 1,
-        ilow: 1,
-        ihigh: 10,
-        rows: 0,
-        looks: 0,
-    };
-    loop {
-        let label = w.label;
-        match label {
-            Label::Search => {
-                w = walk::search(ang, ifob, delpen, jfhz, nang, w);
-            }
-            Label::NextLayer => {
-                w = walk::next_layer(second, w);
-            }
-            Label::NextCusp => {
-                w = walk::next_cusp(delpen, w);
-            }
-            Label::Fill(fill) => {
-                let i = w.rows;
-                let il = w.il;
-                let q = rows::filling_of(
-                    ang,
-                    fvert,
-                    hprim,
-                    htrue,
-                    afac,
-                    ifob,
-                    delpen,
-                    &*delfx,
-                    second,
-                    jfhz,
-                    fill,
-                    w,
-                );
-                let raw = q.raw;
-                let after = q.after;
-                let m = correction::correction_of(raw, freq, fc2, fill, w.ia, ahead);
-                // Before the arcsine, whose answer takes long: the processor works at both.
-                ahead = correction::ahead_of(ang, w.ia);
-                let t = correction::row_of(raw, m, q.mode);
-                let s = skip::skip_of(
-                    Skip {
-                        dskpkm: f.dskpkm,
-                        delskp: f.delskp,
-                        hpskp: f.hpskp,
-                        htskp: f.htskp,
-                        fvskp: f.fvskp,
-                        iskp: f.iskp,
-                    },
-                    t,
-                    il as u32,
-                );
-                let d = skip::far(f.dmaxkm, t.gdr, t.del, amind);
-                delfx[i] = t.del;
-                hpflx[i] = t.hp;
-                htflx[i] = t.ht;
-                gdflx[i] = t.gdr;
-                fvflx[i] = t.fv;
-                afflx[i] = t.af;
-                imode[i] = t.mode;
-                f.dskpkm = s.dskpkm;
-                f.delskp = s.delskp;
-                f.hpskp = s.hpskp;
-                f.htskp = s.htskp;
-                f.fvskp = s.fvskp;
-                f.iskp = s.iskp;
-                f.dmaxkm = d;
-                let count = i + 1;
-                f.iaftxr = count;
-                f.rows_this_call = count;
-                w = walk::filled(fill, q.back, after, w);
-            }
-            Label::Done => {
-                return Outcome {
-                    refusal: 0,
-                    looks: w.looks,
-                    figures: f,
-                };
-            }
-        }
-    }
-}
-
 // The start's contents and the penetration angles, then the walk.
 fn started(
     delfx: &mut [f32; 45],
@@ -239,7 +119,7 @@ fn started(
     f.dmaxkm = unless(p.dead, 0.0);
     f.dskpkm = unless(p.dead, 10000.0);
     f.delpen = delpen;
-    walk_rows(
+    walk::walk_rows(
         delfx,
         hpflx,
         htflx,

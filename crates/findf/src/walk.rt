@@ -1,10 +1,20 @@
-// Translated from hfcast-engine (commit bf34e8f9f3), src/voacap/modes.rs lines 699 to 809 and 890 to 899, and ionogram.rs lines 23 to 28, and changed.
-// The walk of findf: its labels, its state, and each step that writes no row.
+// Translated from hfcast-engine (commit bf34e8f9f3), src/voacap/modes.rs lines 699 to 904, and ionogram.rs lines 23 to 28, and changed.
+// The walk of findf: its labels, its state, its steps, and the loop that takes them and writes the rows.
 ghost use mathlib.Core.Path.{_≡_};
-ghost use Prim.Native.Nat.{_≤_};
-ghost use Rattle.findf.specs.Walk.{ANG, withLabel, searchOf, nextLayerOf, nextCuspOf, afterOf, backOf, filledOf};
+ghost use Prim.Native.Nat.{_≤_, _<_};
+ghost use Rattle.findf.specs.Walk.{ANG, withLabel, lookedAt, layer, searchOf, nextLayerOf, nextCuspOf, afterOf, backOf, filledOf};
 ghost use Rattle.findf.specs.Requires.{Entries, Safe};
+ghost use Rattle.findf.specs.Inputs.{inputsOf};
+ghost use Rattle.findf.specs.Findf.{walkedOf};
+ghost use Rattle.findf.specs.Lent.{reflectrixFrom, walkedFrom};
+use super::Figures;
+use super::Outcome;
+use super::correction;
 use super::look;
+use super::look::Looked;
+use super::rows;
+use super::skip;
+use super::skip::Skip;
 
 // The 40 take-off angles, in degrees.
 pub(crate) const ANG: [f32; 40] = [
@@ -92,6 +102,40 @@ fn with_label(w: Walk, l: Label) -> Walk
     }
 }
 
+// An angle is taken, and the looks end at row l.ih.
+fn looked_at(w: Walk, l: Looked) -> Walk
+    requires { ⌜ w .ia < 40 ⌝ }
+    ensures { λ r. ⌜ r ≡ lookedAt w l ⌝ }
+{
+    let label = l.label;
+    Walk {
+        label: label,
+        ia: w.ia + 1,
+        il: w.il,
+        ih: l.ih,
+        ilow: w.ilow,
+        ihigh: w.ihigh,
+        rows: w.rows,
+        looks: l.looks,
+    }
+}
+
+// The search of a layer begins at row ih of the range ilow to ihigh.
+fn layer(w: Walk, il: usize, ih: usize, ilow: usize, ihigh: usize) -> Walk
+    ensures { λ r. ⌜ r ≡ layer w il ih ilow ihigh ⌝ }
+{
+    Walk {
+        label: Label::Search,
+        ia: w.ia,
+        il: il,
+        ih: ih,
+        ilow: ilow,
+        ihigh: ihigh,
+        rows: w.rows,
+        looks: w.looks,
+    }
+}
+
 pub(crate) fn search(
     ang: &[f32; 40],
     ifob: &[i32; 1200],
@@ -116,29 +160,19 @@ pub(crate) fn search(
         return with_label(w, Label::Done);
     }
     if del - ang[ia] <= 0.0 {
-        return Walk {
-            label: Label::Fill(Fill::Cusp),
-            ia: ia + 1,
-            il: w.il,
-            ih: w.ih,
-            ilow: w.ilow,
-            ihigh: w.ihigh,
-            rows: w.rows,
-            looks: w.looks,
-        };
+        return looked_at(
+            w,
+            Looked {
+                label: Label::Fill(Fill::Cusp),
+                ih: w.ih,
+                looks: w.looks,
+            },
+        );
     }
-    let l = look::looks(ifob, jfhz, ia * 30, w.ilow, w.ihigh, w.ih, w.looks);
-    let label = l.label;
-    Walk {
-        label: label,
-        ia: ia + 1,
-        il: w.il,
-        ih: l.ih,
-        ilow: w.ilow,
-        ihigh: w.ihigh,
-        rows: w.rows,
-        looks: l.looks,
-    }
+    looked_at(
+        w,
+        look::looks(ifob, jfhz, ia * 30, w.ilow, w.ihigh, w.ih, w.looks),
+    )
 }
 
 pub(crate) fn next_layer(second: f32, w: Walk) -> Walk
@@ -148,39 +182,12 @@ pub(crate) fn next_layer(second: f32, w: Walk) -> Walk
     let il = w.il;
     if il == 1 {
         if second > 0.0 {
-            return Walk {
-                label: Label::Search,
-                ia: w.ia,
-                il: 2,
-                ih: 11,
-                ilow: 11,
-                ihigh: 20,
-                rows: w.rows,
-                looks: w.looks,
-            };
+            return layer(w, 2, 11, 11, 20);
         }
-        return Walk {
-            label: Label::Search,
-            ia: w.ia,
-            il: 3,
-            ih: 11,
-            ilow: 11,
-            ihigh: 30,
-            rows: w.rows,
-            looks: w.looks,
-        };
+        return layer(w, 3, 11, 11, 30);
     }
     if il == 2 {
-        return Walk {
-            label: Label::Search,
-            ia: w.ia,
-            il: 3,
-            ih: 21,
-            ilow: w.ihigh + 1,
-            ihigh: 30,
-            rows: w.rows,
-            looks: w.looks,
-        };
+        return layer(w, 3, 21, w.ihigh + 1, 30);
     }
     with_label(w, Label::Done)
 }
@@ -205,20 +212,9 @@ pub(crate) fn filled(fill: Fill, b: usize, l: Label, w: Walk) -> Walk
     ensures { λ r. ⌜ r ≡ filledOf fill w ⌝ }
 {
     let n = w.rows + 1;
-    if n >= 45 {
-        return Walk {
-            label: Label::Done,
-            ia: w.ia - b,
-            il: w.il,
-            ih: w.ih,
-            ilow: w.ilow,
-            ihigh: w.ihigh,
-            rows: n,
-            looks: w.looks,
-        };
-    }
+    let after = if n >= 45 { Label::Done } else { l };
     Walk {
-        label: l,
+        label: after,
         ia: w.ia - b,
         il: w.il,
         ih: w.ih,
@@ -226,5 +222,123 @@ pub(crate) fn filled(fill: Fill, b: usize, l: Label, w: Walk) -> Walk
         ihigh: w.ihigh,
         rows: n,
         looks: w.looks,
+    }
+}
+
+// The walk from its start to Done, a row written in place at each fill.
+pub(crate) fn walk_rows(
+    delfx: &mut [f32; 45],
+    hpflx: &mut [f32; 45],
+    htflx: &mut [f32; 45],
+    gdflx: &mut [f32; 45],
+    fvflx: &mut [f32; 45],
+    afflx: &mut [f32; 45],
+    imode: &mut [u32; 45],
+    figures: Figures,
+    nang: usize,
+    freq: f32,
+    amind: f32,
+    jfhz: u32,
+    second: f32,
+    fc2: f32,
+    delpen: &[f32; 3],
+    fvert: &[f32; 30],
+    hprim: &[f32; 30],
+    htrue: &[f32; 30],
+    afac: &[f32; 30],
+    ifob: &[i32; 1200],
+) -> Outcome
+    requires { ⌜ Entries (now ifob) × ((nang ≤ 40) × (jfhz ≤ 99999)) ⌝ }
+    ensures { λ r. ⌜ walkedFrom (now (delfx .exit)) (now (hpflx .exit)) (now (htflx .exit)) (now (gdflx .exit)) (now (fvflx .exit)) (now (afflx .exit)) (now (imode .exit)) r ≡ walkedOf (inputsOf nang freq amind jfhz second fc2 (now (delpen .entry)) (now (fvert .entry)) (now (hprim .entry)) (now (htrue .entry)) (now (afac .entry)) (now (ifob .entry))) (reflectrixFrom (now (delfx .entry)) (now (hpflx .entry)) (now (htflx .entry)) (now (gdflx .entry)) (now (fvflx .entry)) (now (afflx .entry)) (now (imode .entry)) figures) ⌝ }
+{
+    let ang = &ANG;
+    let mut ahead = correction::ahead_of(ang, 0);
+    let mut f = figures;
+    let mut w = Walk {
+        label: Label::Search,
+        ia: 0,
+        il: 1,
+        ih: 1,
+        ilow: 1,
+        ihigh: 10,
+        rows: 0,
+        looks: 0,
+    };
+    loop {
+        let label = w.label;
+        match label {
+            Label::Search => {
+                w = search(ang, ifob, delpen, jfhz, nang, w);
+            }
+            Label::NextLayer => {
+                w = next_layer(second, w);
+            }
+            Label::NextCusp => {
+                w = next_cusp(delpen, w);
+            }
+            Label::Fill(fill) => {
+                let i = w.rows;
+                let il = w.il;
+                let q = rows::filling_of(
+                    ang,
+                    fvert,
+                    hprim,
+                    htrue,
+                    afac,
+                    ifob,
+                    delpen,
+                    &*delfx,
+                    second,
+                    jfhz,
+                    fill,
+                    w,
+                );
+                let raw = q.raw;
+                let after = q.after;
+                let m = correction::correction_of(raw, freq, fc2, fill, w.ia, ahead);
+                // Before the arcsine, whose answer takes long: the processor works at both.
+                ahead = correction::ahead_of(ang, w.ia);
+                let t = correction::row_of(raw, m, q.mode);
+                let s = skip::skip_of(
+                    Skip {
+                        dskpkm: f.dskpkm,
+                        delskp: f.delskp,
+                        hpskp: f.hpskp,
+                        htskp: f.htskp,
+                        fvskp: f.fvskp,
+                        iskp: f.iskp,
+                    },
+                    t,
+                    il as u32,
+                );
+                let d = skip::far(f.dmaxkm, t.gdr, t.del, amind);
+                delfx[i] = t.del;
+                hpflx[i] = t.hp;
+                htflx[i] = t.ht;
+                gdflx[i] = t.gdr;
+                fvflx[i] = t.fv;
+                afflx[i] = t.af;
+                imode[i] = t.mode;
+                f.dskpkm = s.dskpkm;
+                f.delskp = s.delskp;
+                f.hpskp = s.hpskp;
+                f.htskp = s.htskp;
+                f.fvskp = s.fvskp;
+                f.iskp = s.iskp;
+                f.dmaxkm = d;
+                let count = i + 1;
+                f.iaftxr = count;
+                f.rows_this_call = count;
+                w = filled(fill, q.back, after, w);
+            }
+            Label::Done => {
+                let looks = w.looks;
+                return Outcome {
+                    refusal: 0,
+                    looks: looks,
+                    figures: f,
+                };
+            }
+        }
     }
 }

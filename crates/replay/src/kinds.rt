@@ -1,5 +1,5 @@
 // The kinds of records: the arguments of a call, then all that it must give back.
-ghost use Prim.Native.Nat.{_≤_, _<_};
+ghost use Prim.Native.Nat.{_≤_};
 use super::chances;
 use super::jobs;
 use super::modes;

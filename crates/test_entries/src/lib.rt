@@ -19,6 +19,8 @@ use sigdis::LayerMuf;
 use sigdis::MufHour;
 use sigdis::Probability;
 
+mod lent;
+
 #[no_mangle]
 pub extern "C" fn ray_sqrt(x: f32) -> f32
     ensures { λ r. ⌜ r ≡ sqrtOf x ⌝ }

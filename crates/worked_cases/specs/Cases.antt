@@ -11,7 +11,7 @@ use Rattle.findf.specs.declared.Reflectrix.{Reflectrix}
 use Rattle.fdist.specs.Fdist.{fdistOf}
 use Rattle.fdist.specs.declared.Searched.{Searched}
 use Rattle.job.specs.Parts.{partsBy}
-use Rattle.job.specs.Solved.{Solved, allZero, noSlots, solvedOf}
+use Rattle.job.specs.Solved.{Solved, noSlots, solvedOf}
 
 -- what a case says of the answer: rows and looks of a walk, angles and figures of its reflectrix, pairs and rays of a search, angles, heights and layers of its slots; a place counts from 0
 pub data Field : Type 0 where

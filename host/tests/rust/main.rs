@@ -3,6 +3,8 @@
 #[cfg(oracle)]
 mod allmodes;
 #[cfg(oracle)]
+mod by_reference;
+#[cfg(oracle)]
 mod fdist;
 #[cfg(oracle)]
 mod findf;

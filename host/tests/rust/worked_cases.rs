@@ -196,6 +196,7 @@ macro_rules! uncounted {
 #[test]
 fn the_library_gives_the_worked_cases() {
     check(findf::ours, fdist::ours);
+    check(findf::by_reference, fdist::by_reference);
 }
 
 #[test]

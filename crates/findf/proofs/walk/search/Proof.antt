@@ -40,12 +40,14 @@ mul-if4 c = search needs
 element-copy-out-if4 : tie.Need-element-copy-out-if4
 element-copy-out-if4 c = search needs
 
-add-t26 : tie.Need-add-t26
-add-t26 c = search needs
+looked-at-requires : tie.Need-looked-at-requires
+looked-at-requires c κs = search needs
 
 returns-4 : tie.Need-returns-4
 unfolding searchOf searchBy angOf
-returns-4 c = simp (c .before .before .before .before .if1 .left, c .before .before .before .if2 .left, lt-leb _ _ (c .before .before .if3 .left), ← c .before .before .before .before .before .before .pre .0, c .if4 .taken)
+returns-4 c =
+    let q = c .before in
+    simp (q .before .before .before .before .if1 .left, q .before .before .before .if2 .left, lt-leb _ _ (q .before .before .if3 .left), ← q .before .before .before .before .before .before .pre .0, q .if4 .taken, ← c .looked-at .ensures)
 
 mul-looks : tie.Need-mul-looks
 mul-looks c = search needs
@@ -53,12 +55,14 @@ mul-looks c = search needs
 looks-requires : tie.Need-looks-requires
 looks-requires c κs = search needs
 
-add-t12 : tie.Need-add-t12
-add-t12 c = search needs
+looked-at-requires-2 : tie.Need-looked-at-requires-2
+looked-at-requires-2 c κs = search needs
 
 returns-5 : tie.Need-returns-5
 unfolding searchOf searchBy angOf
-returns-5 c = simp (c .before .before .before .before .before .if1 .left, c .before .before .before .before .if2 .left, lt-leb _ _ (c .before .before .before .if3 .left), ← c .before .before .before .before .before .before .before .pre .0, c .before .if4 .left, ← c .looks .ensures)
+returns-5 c =
+    let q = c .before in
+    simp (q .before .before .before .before .before .if1 .left, q .before .before .before .before .if2 .left, lt-leb _ _ (q .before .before .before .if3 .left), ← q .before .before .before .before .before .before .before .pre .0, q .before .if4 .left, ← q .looks .ensures, ← c .looked-at2 .ensures)
 
 pub search-spec : {M : Type 1} → statement M
 search-spec =
@@ -75,9 +79,9 @@ search-spec =
     returns-3
     mul-if4
     element-copy-out-if4
-    add-t26
+    looked-at-requires
     returns-4
     mul-looks
     looks-requires
-    add-t12
+    looked-at-requires-2
     returns-5)

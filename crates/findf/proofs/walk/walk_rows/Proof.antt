@@ -11,8 +11,8 @@ use Rattle.findf.specs.Lent.{reflectrixFrom}
 use Rattle.findf.specs.declared.walk.Label.{Label}
 use Rattle.findf.proofs.Fills.{angled}
 use Rattle.findf.proofs.Steps.{searches, next-layers, next-cusps, fills, ends}
-use Rattle.findf.proofs.walk_rows.Statement.{statement}
-use Rattle.findf.proofs.walk_rows.Tie as tie
+use Rattle.findf.proofs.walk.walk_rows.Statement.{statement}
+use Rattle.findf.proofs.walk.walk_rows.Tie as tie
 
 abbrev Inv-loop : tie.InvT-loop
 Inv-loop delfx₀ hpflx₀ htflx₀ gdflx₀ fvflx₀ afflx₀ imode₀ nang freq amind jfhz second fc2 delpen fvert hprim htrue afac ifob ang ahead₀ f₀ w₀ delfx hpflx htflx gdflx fvflx afflx imode ahead f w =

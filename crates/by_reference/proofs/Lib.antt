@@ -1,0 +1,4 @@
+pub mod Cells
+pub mod FdistParams
+pub mod FindfParams
+pub mod Locals
