@@ -49,6 +49,31 @@ fn name_of(name: &[u8], out: &mut [u8], at: usize) -> usize {
     escaped(&line, n, out, at)
 }
 
+// More characters than this do not fit beside the frequency at the title's size.
+const SHORT: usize = 28;
+
+fn sized(n: usize, out: &mut [u8], at: usize) -> usize {
+    if n > SHORT {
+        return text(
+            out,
+            at,
+            b"<text x=\"64\" y=\"28\" font-size=\"12\" font-weight=\"bold\">Reflectrix: ",
+        );
+    }
+    text(
+        out,
+        at,
+        b"<text x=\"64\" y=\"28\" font-size=\"18\" font-weight=\"bold\">Reflectrix: ",
+    )
+}
+
+fn titled(name: &[u8], out: &mut [u8], at: usize) -> usize {
+    let mut line = [0u8; 128];
+    let n = names::shown(name, &mut line, 0);
+    let a = sized(n, out, at);
+    escaped(&line, n, out, a)
+}
+
 fn first(job: &[u8], answer: &[u8], out: &mut [u8], at: usize) -> usize {
     let mut line = [0u8; 128];
     let n = verdict::first(job, answer, &mut line, 0);
@@ -71,7 +96,7 @@ fn described(name: &[u8], job: &[u8], answer: &[u8], out: &mut [u8], at: usize) 
     text(
         out,
         e,
-        b"</desc>\n<rect width=\"840\" height=\"620\" fill=\"#fff\"/>\n<text x=\"64\" y=\"28\" font-size=\"18\" font-weight=\"bold\">Reflectrix: ",
+        b"</desc>\n<rect width=\"840\" height=\"620\" fill=\"#fff\"/>\n",
     )
 }
 
@@ -94,7 +119,7 @@ pub(crate) fn head(name: &[u8], job: &[u8], answer: &[u8], out: &mut [u8]) -> us
         b"<svg xmlns=\"http://www.w3.org/2000/svg\" viewBox=\"0 0 840 620\" width=\"840\" height=\"620\" font-family=\"Helvetica,Arial,sans-serif\" font-size=\"13\" fill=\"#000\">\n<title>Reflectrix, ",
     );
     let b = described(name, job, answer, out, a);
-    let c = name_of(name, out, b);
+    let c = titled(name, out, b);
     let d = filled(
         b"</text>\n<text x=\"824\" y=\"28\" text-anchor=\"end\" font-size=\"18\" font-weight=\"bold\">@A3i MHz</text>\n<text x=\"64\" y=\"50\" font-size=\"14\">",
         &v,

@@ -4,10 +4,8 @@ ghost use lib.ListN.{length};
 use decimal::text;
 use job::layout;
 
-mod frame;
 mod head;
 mod legend;
-mod lines;
 
 // The highest angle to be shown: a row's, a ray's or the minimum; 90 deg where there are no rows.
 fn highest(job: &[u8], answer: &[u8]) -> u32 {
@@ -27,7 +25,7 @@ pub fn drawing(name: &[u8], job: &[u8], answer: &[u8], out: &mut [u8]) -> usize
     let across = scale::across(curve::farthest(answer), curve::in_tenths(view::asked(job)));
     let up = scale::up(highest(job, answer));
     let a = head::head(name, job, answer, out);
-    let b = frame::grid(job, across, up, out, a);
+    let b = plot::grid(job, across, up, out, a);
     let c = plotted(job, answer, across.end, up.end, out, b);
     let d = legend::legend(job, answer, out, c);
     text(out, d, b"</svg>\n")
@@ -35,9 +33,9 @@ pub fn drawing(name: &[u8], job: &[u8], answer: &[u8], out: &mut [u8]) -> usize
 
 // What stands inside the plot.
 fn plotted(job: &[u8], answer: &[u8], across: u32, up: u32, out: &mut [u8], at: usize) -> usize {
-    let a = lines::dotted(answer, across, out, at);
+    let a = plot::dotted(answer, across, out, at);
     let b = curve::curve(answer, across, up, out, a);
-    let c = lines::asked(job, answer, up, out, b);
-    let d = lines::labels(job, answer, across, out, c);
+    let c = plot::asked(job, answer, up, out, b);
+    let d = plot::labels(job, answer, across, out, c);
     rays::rays(job, answer, up, out, d)
 }

@@ -1,4 +1,4 @@
-// A name as the tool, the sheet and the drawing show it.
+// A job's name as the sheet and the drawing show it.
 ghost use Prim.Native.Nat.{_≤_};
 ghost use lib.ListN.{length};
 use decimal::put;
@@ -9,7 +9,8 @@ const MOST: usize = 48;
 
 const LEFT: usize = 45;
 
-fn shown_byte(b: u8) -> u8 {
+// A byte outside 32 to 126 is `?`.
+fn plain(b: u8) -> u8 {
     if b < 32 {
         return b'?';
     }
@@ -19,14 +20,14 @@ fn shown_byte(b: u8) -> u8 {
     b
 }
 
-// The name as it was given, each byte outside 32 to 126 as `?`.
-pub fn plain(s: &[u8], out: &mut [u8], at: usize) -> usize
+// A text with each byte outside 32 to 126 as `?`.
+pub fn plains(s: &[u8], out: &mut [u8], at: usize) -> usize
     ensures { λ r. ⌜ r ≤ length (now (out .entry)) ⌝ }
 {
     let mut to = decimal::inside(at, out);
     let mut i = 0usize;
     while i < s.len() {
-        to = put(out, to, shown_byte(s[i]));
+        to = put(out, to, plain(s[i]));
         i += 1;
     }
     to
@@ -52,9 +53,21 @@ fn cut(part: &[u8], out: &mut [u8], at: usize) -> usize
     if part.len() > MOST {
         let a = text(out, at, b"...");
         let from = part.len() - LEFT;
-        return plain(&part[from..], out, a);
+        return plains(&part[from..], out, a);
     }
-    plain(part, out, at)
+    plains(part, out, at)
+}
+
+// How many characters are shown of a name.
+pub fn width(name: &[u8]) -> usize
+    ensures { λ r. ⌜ r ≤ 48 ⌝ }
+{
+    let from = last(name);
+    let n = name.len() - from;
+    if n > MOST {
+        return MOST;
+    }
+    n
 }
 
 // The name's last part, cut from the left to `...` and 45 characters where it has more than 48.

@@ -36,7 +36,7 @@ pub fn page(verb: Verb, name: &[u8], job: &[u8], answer: &[u8], out: &mut [u8]) 
 fn accepted(name: &[u8], out: &mut [u8]) -> usize
     ensures { λ r. ⌜ r ≤ length (now (out .entry)) ⌝ }
 {
-    let a = names::plain(name, out, 0);
+    let a = names::plains(name, out, 0);
     text(out, a, b": accepted\n")
 }
 

@@ -39,11 +39,11 @@ fn ring_x(x: u32, i: usize) -> u32
 
 fn ring_y(job: &[u8], answer: &[u8], x: u32, up: u32, i: usize) -> u32
     requires { ⌜ i < 6 ⌝ }
-    ensures { λ r. ⌜ r ≤ 5440 ⌝ }
+    ensures { λ r. ⌜ r ≤ 5350 ⌝ }
 {
     scale::min(
         scale::ring(raised(job, answer, x, up, i), above(job, answer, x, i)),
-        scale::BOTTOM,
+        scale::LOWEST_RING,
     )
 }
 

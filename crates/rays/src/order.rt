@@ -112,7 +112,7 @@ fn next(y: u32, yes: bool, dot: u32) -> u32 {
 pub(crate) fn raised(job: &[u8], answer: &[u8], x: u32, up: u32, i: usize) -> u32
     requires { ⌜ i < 6 ⌝ }
 {
-    let mut y = scale::BOTTOM + 190;
+    let mut y = scale::LOWEST_RING + scale::APART;
     let mut j = 0usize;
     while j <= i {
         y = next(y, one_side(x) | (i % 2 == j % 2), dot(job, answer, up, j));

@@ -11,7 +11,7 @@ use decimal::text;
 pub fn refusal(name: &[u8], job: &[u8], number: u32, out: &mut [u8], at: usize) -> usize
     ensures { λ r. ⌜ r ≤ length (now (out .entry)) ⌝ }
 {
-    let a = names::plain(name, out, at);
+    let a = names::plains(name, out, at);
     let b = filled(b": refused, limit @Aw0: ", &[number], out, a);
     let c = sentence::sentence(number, out, b);
     let d = text(out, c, b"\n");

@@ -1,1 +1,2 @@
 pub mod DecimalsLaws
+pub mod ValueLaws

@@ -87,10 +87,10 @@ max-right a b = cases (leb a b) (leb-false a b)
     cases false h = omega (arith, h refl)
 
 -- no ring is outside the plot
-pub ring-inside : (y above : ℕ) → y ≤ 5440 → (1350 ≤ ringOf y above) × (ringOf y above ≤ 5440)
+pub ring-inside : (y above : ℕ) → y ≤ 5350 → (1350 ≤ ringOf y above) × (ringOf y above ≤ 5350)
 ring-inside y above h = (
   omega (arith, max-right y (1350 + 190 * minOf above 5)),
-  max-most y (1350 + 190 * minOf above 5) 5440 h (omega (arith, min-end above 5)),
+  max-most y (1350 + 190 * minOf above 5) 5350 h (omega (arith, min-end above 5)),
 )
 
 -- two rings that stand next to each other on one side are 19 px apart: y is the lower one's place before there is room, z the upper one's dot

@@ -194,6 +194,13 @@ pub fn asked_line(far: u32, asked: u32) -> u32
     ax(asked, across(far, asked).end)
 }
 
+// A ring's radius is 9 px: the lowest place of one, the highest, and how far two are apart.
+pub const LOWEST_RING: u32 = BOTTOM - 90;
+
+pub const HIGHEST_RING: u32 = TOP + 90;
+
+pub const APART: u32 = 190;
+
 fn minus(a: u32, b: u32) -> u32
     ensures { λ r. ⌜ r ≡ a - b ⌝ }
 {
@@ -207,7 +214,7 @@ fn minus(a: u32, b: u32) -> u32
 pub fn lifted(last: u32, y: u32) -> u32
     ensures { λ r. ⌜ r ≡ liftedOf last y ⌝ }
 {
-    min(y, minus(last, 190))
+    min(y, minus(last, APART))
 }
 
 // The place of a ring that has so many above it on its side.
@@ -215,7 +222,7 @@ pub fn ring(y: u32, above: u32) -> u32
     ensures { λ r. ⌜ r ≡ ringOf y above ⌝ }
 {
     let above = min(above, 5);
-    max(y, 1350 + 190 * above)
+    max(y, HIGHEST_RING + APART * above)
 }
 
 // The product, or the largest number.

@@ -68,13 +68,29 @@ fn rule(out: &mut [u8], at: usize) -> usize
     text(out, a, b"\n")
 }
 
+// Where out's text up to `at` ends without the spaces at its end.
+fn trimmed(out: &[u8], at: usize) -> usize
+    ensures { λ r. ⌜ r ≤ length (now (out .entry)) ⌝ }
+{
+    let mut n = decimal::inside(at, out);
+    while n > 0 {
+        if out[n - 1] != b' ' {
+            return n;
+        }
+        n -= 1;
+    }
+    n
+}
+
+// The heading and the name. No line ends in spaces, so a name's own are dropped there.
 pub(crate) fn title(heading: &[u8], name: &[u8], out: &mut [u8], at: usize) -> usize
     ensures { λ r. ⌜ r ≤ length (now (out .entry)) ⌝ }
 {
     let a = text(out, at, heading);
     let b = named(less(LINE, heading.len()), name, out, a);
-    let c = text(out, b, b"\n");
-    rule(out, c)
+    let c = trimmed(out, b);
+    let d = text(out, c, b"\n");
+    rule(out, d)
 }
 
 // The verdict's two lines, and the rule under them.

@@ -13,7 +13,7 @@ fn line(before: &[u8], word: &[u8], after: &[u8], out: &mut [u8]) -> usize
 {
     let a = text(out, 0, b"ray: ");
     let b = text(out, a, before);
-    let c = names::plain(word, out, b);
+    let c = names::plains(word, out, b);
     text(out, c, after)
 }
 
@@ -42,7 +42,7 @@ pub fn unwritten(err: i32, name: &[u8]) -> u32
 // Why the call that just failed did, in the system's own words.
 pub fn failed(name: &[u8]) {
     let mut page = io::large_buffer();
-    let end = names::plain(name, &mut page, 0);
+    let end = names::plains(name, &mut page, 0);
     let n = inside(end, &page);
     io::write_all(libc::STDERR_FILENO, b"ray: ");
     os::fail(&page[..n]);

@@ -18,7 +18,7 @@ min-requires : tie.Need-min-requires
 min-requires c κs = search needs
 
 returns : tie.Need-returns
-returns c = subst (λ (n : ℕ). n ≤ 5440) (sym (c .min .ensures)) (min-end (c .before .ring .result) 5440)
+returns c = subst (λ (n : ℕ). n ≤ 5350) (sym (c .min .ensures)) (min-end (c .before .ring .result) 5350)
 
 pub ring-y-spec : {M : Type 1} → statement M
 ring-y-spec =

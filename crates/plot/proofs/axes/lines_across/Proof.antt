@@ -2,8 +2,8 @@ use Prim.Native.Nat.{_+_, _-_, _≤_}
 use borrow.Author.Needs.{needs}
 use mathlib.Core.Path.{_≡_}
 use lib.ListN.{length}
-use Rattle.drawing.proofs.frame.lines_across.Statement.{statement}
-use Rattle.drawing.proofs.frame.lines_across.Tie as tie
+use Rattle.plot.proofs.axes.lines_across.Statement.{statement}
+use Rattle.plot.proofs.axes.lines_across.Tie as tie
 
 abbrev Inv-loop : tie.InvT-loop
 Inv-loop a out₀ at to₀ i₀ out to i = (i ≤ 11) × (length out ≡ length out₀)

@@ -1,5 +1,8 @@
 // The lines of the nearest, the farthest and the asked length and of the minimum angle, and the labels above the plot.
+ghost use Prim.Native.Nat.{_≤_};
+ghost use lib.ListN.{length};
 use decimal::filled;
+use decimal::inside;
 use decimal::text;
 use job::layout;
 
@@ -24,9 +27,11 @@ fn place(w: u32, across: u32) -> [u32; 2] {
     [scale::ax(curve::in_tenths(w), across), w]
 }
 
-fn nearest(answer: &[u8], across: u32, out: &mut [u8], at: usize) -> usize {
+fn nearest(answer: &[u8], across: u32, out: &mut [u8], at: usize) -> usize
+    ensures { λ r. ⌜ r ≤ length (now (out .entry)) ⌝ }
+{
     if !has_nearest(answer) {
-        return at;
+        return inside(at, out);
     }
     let v = place(view::word(answer, layout::DSKPKM), across);
     filled(
@@ -37,9 +42,11 @@ fn nearest(answer: &[u8], across: u32, out: &mut [u8], at: usize) -> usize {
     )
 }
 
-fn farthest(answer: &[u8], across: u32, out: &mut [u8], at: usize) -> usize {
+fn farthest(answer: &[u8], across: u32, out: &mut [u8], at: usize) -> usize
+    ensures { λ r. ⌜ r ≤ length (now (out .entry)) ⌝ }
+{
     if !has_farthest(answer) {
-        return at;
+        return inside(at, out);
     }
     let v = place(view::word(answer, layout::DMAXKM), across);
     filled(
@@ -50,7 +57,9 @@ fn farthest(answer: &[u8], across: u32, out: &mut [u8], at: usize) -> usize {
     )
 }
 
-pub(crate) fn dotted(answer: &[u8], across: u32, out: &mut [u8], at: usize) -> usize {
+pub fn dotted(answer: &[u8], across: u32, out: &mut [u8], at: usize) -> usize
+    ensures { λ r. ⌜ r ≤ length (now (out .entry)) ⌝ }
+{
     let a = nearest(answer, across, out, at);
     farthest(answer, across, out, a)
 }
@@ -65,7 +74,9 @@ fn asked_line(job: &[u8], answer: &[u8]) -> u32 {
 }
 
 // The minimum angle, the asked length, and the plot's edges.
-pub(crate) fn asked(job: &[u8], answer: &[u8], up: u32, out: &mut [u8], at: usize) -> usize {
+pub fn asked(job: &[u8], answer: &[u8], up: u32, out: &mut [u8], at: usize) -> usize
+    ensures { λ r. ⌜ r ≤ length (now (out .entry)) ⌝ }
+{
     let v = [
         scale::ay(curve::in_thousandths(view::word(job, view::AMIND)), up),
         asked_line(job, answer),
@@ -79,7 +90,9 @@ pub(crate) fn asked(job: &[u8], answer: &[u8], up: u32, out: &mut [u8], at: usiz
 }
 
 // Which end of a label stands at its line.
-fn anchor(x: u32, out: &mut [u8], at: usize) -> usize {
+fn anchor(x: u32, out: &mut [u8], at: usize) -> usize
+    ensures { λ r. ⌜ r ≤ length (now (out .entry)) ⌝ }
+{
     if x < scale::LEFT + 900 {
         return text(out, at, b"start");
     }
@@ -90,14 +103,9 @@ fn anchor(x: u32, out: &mut [u8], at: usize) -> usize {
 }
 
 // A label twice: its white edge, and itself.
-fn label(
-    v: &[u32; 2],
-    start: &[u8],
-    edge: &[u8],
-    plain: &[u8],
-    out: &mut [u8],
-    at: usize,
-) -> usize {
+fn label(v: &[u32; 2], start: &[u8], edge: &[u8], plain: &[u8], out: &mut [u8], at: usize) -> usize
+    ensures { λ r. ⌜ r ≤ length (now (out .entry)) ⌝ }
+{
     let a = filled(start, v, out, at);
     let b = anchor(v[0], out, a);
     let c = filled(edge, v, out, b);
@@ -106,9 +114,11 @@ fn label(
     filled(plain, v, out, e)
 }
 
-fn nearest_label(answer: &[u8], across: u32, out: &mut [u8], at: usize) -> usize {
+fn nearest_label(answer: &[u8], across: u32, out: &mut [u8], at: usize) -> usize
+    ensures { λ r. ⌜ r ≤ length (now (out .entry)) ⌝ }
+{
     if !has_nearest(answer) {
-        return at;
+        return inside(at, out);
     }
     let v = place(view::word(answer, layout::DSKPKM), across);
     label(
@@ -121,9 +131,11 @@ fn nearest_label(answer: &[u8], across: u32, out: &mut [u8], at: usize) -> usize
     )
 }
 
-fn farthest_label(answer: &[u8], across: u32, out: &mut [u8], at: usize) -> usize {
+fn farthest_label(answer: &[u8], across: u32, out: &mut [u8], at: usize) -> usize
+    ensures { λ r. ⌜ r ≤ length (now (out .entry)) ⌝ }
+{
     if !has_farthest(answer) {
-        return at;
+        return inside(at, out);
     }
     let v = place(view::word(answer, layout::DMAXKM), across);
     label(
@@ -136,7 +148,9 @@ fn farthest_label(answer: &[u8], across: u32, out: &mut [u8], at: usize) -> usiz
     )
 }
 
-fn asked_label(job: &[u8], answer: &[u8], out: &mut [u8], at: usize) -> usize {
+fn asked_label(job: &[u8], answer: &[u8], out: &mut [u8], at: usize) -> usize
+    ensures { λ r. ⌜ r ≤ length (now (out .entry)) ⌝ }
+{
     let v = [asked_line(job, answer), view::asked(job)];
     if beyond(job, answer) {
         return label(
@@ -158,7 +172,9 @@ fn asked_label(job: &[u8], answer: &[u8], out: &mut [u8], at: usize) -> usize {
     )
 }
 
-pub(crate) fn labels(job: &[u8], answer: &[u8], across: u32, out: &mut [u8], at: usize) -> usize {
+pub fn labels(job: &[u8], answer: &[u8], across: u32, out: &mut [u8], at: usize) -> usize
+    ensures { λ r. ⌜ r ≤ length (now (out .entry)) ⌝ }
+{
     let a = nearest_label(answer, across, out, at);
     let b = farthest_label(answer, across, out, a);
     asked_label(job, answer, out, b)

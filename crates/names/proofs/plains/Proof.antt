@@ -2,8 +2,8 @@ use Prim.Native.Nat.{_+_, _-_, _≤_}
 use borrow.Author.Needs.{needs}
 use mathlib.Core.Path.{_≡_}
 use lib.ListN.{length}
-use Rattle.names.proofs.plain.Statement.{statement}
-use Rattle.names.proofs.plain.Tie as tie
+use Rattle.names.proofs.plains.Statement.{statement}
+use Rattle.names.proofs.plains.Tie as tie
 
 abbrev Inv-loop : tie.InvT-loop
 Inv-loop s out₀ at to₀ i₀ out to i = (i ≤ (length s)) × (to ≤ length out₀) × (length out ≡ length out₀)
@@ -17,11 +17,11 @@ inside-requires c κs = search needs
 loop-holds : tie.Need-loop-holds Inv-loop μ-loop
 loop-holds c = search needs
 
-shared-slice-read-shown-byte : tie.Need-shared-slice-read-shown-byte Inv-loop μ-loop
-shared-slice-read-shown-byte c = search needs
+shared-slice-read-plain : tie.Need-shared-slice-read-plain Inv-loop μ-loop
+shared-slice-read-plain c = search needs
 
-shown-byte-requires : tie.Need-shown-byte-requires Inv-loop μ-loop
-shown-byte-requires c κs = search needs
+plain-requires : tie.Need-plain-requires Inv-loop μ-loop
+plain-requires c κs = search needs
 
 put-requires : tie.Need-put-requires Inv-loop μ-loop
 put-requires c κs = search needs
@@ -41,16 +41,16 @@ same-length c = search needs
 returns : tie.Need-returns Inv-loop μ-loop
 returns c = search needs
 
-pub plain-spec : {M : Type 1} → statement M
-plain-spec =
+pub plains-spec : {M : Type 1} → statement M
+plains-spec =
     tie.close
     (tie.spec
     Inv-loop
     μ-loop
     inside-requires
     loop-holds
-    shared-slice-read-shown-byte
-    shown-byte-requires
+    shared-slice-read-plain
+    plain-requires
     put-requires
     add-i
     loop-less

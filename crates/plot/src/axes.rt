@@ -1,4 +1,6 @@
 // The ground below the minimum angle, the grid, and the marked axes.
+ghost use Prim.Native.Nat.{_≤_};
+ghost use lib.ListN.{length};
 use decimal::filled;
 use decimal::text;
 use scale::Axis;
@@ -113,7 +115,9 @@ fn numbers_up(a: Axis, out: &mut [u8], at: usize) -> usize {
     to
 }
 
-fn numbers(across: Axis, up: Axis, out: &mut [u8], at: usize) -> usize {
+fn numbers(across: Axis, up: Axis, out: &mut [u8], at: usize) -> usize
+    ensures { λ r. ⌜ r ≤ length (now (out .entry)) ⌝ }
+{
     let a = text(out, at, b"</g>\n<g text-anchor=\"middle\">\n");
     let b = numbers_across(across, out, a);
     let c = text(
@@ -129,7 +133,9 @@ fn numbers(across: Axis, up: Axis, out: &mut [u8], at: usize) -> usize {
     )
 }
 
-pub(crate) fn grid(job: &[u8], across: Axis, up: Axis, out: &mut [u8], at: usize) -> usize {
+pub fn grid(job: &[u8], across: Axis, up: Axis, out: &mut [u8], at: usize) -> usize
+    ensures { λ r. ⌜ r ≤ length (now (out .entry)) ⌝ }
+{
     let a = ground(job, up.end, out, at);
     let b = text(out, a, b"<g stroke=\"#d8d8d8\">\n");
     let c = lines_across(across, out, b);

@@ -2,8 +2,8 @@ use Prim.Native.Nat.{_+_, _-_, _≤_}
 use borrow.Author.Needs.{needs}
 use mathlib.Core.Path.{_≡_}
 use lib.ListN.{length}
-use Rattle.drawing.proofs.frame.numbers_across.Statement.{statement}
-use Rattle.drawing.proofs.frame.numbers_across.Tie as tie
+use Rattle.plot.proofs.axes.lines_up.Statement.{statement}
+use Rattle.plot.proofs.axes.lines_up.Tie as tie
 
 abbrev Inv-loop : tie.InvT-loop
 Inv-loop a out₀ at to₀ i₀ out to i = (i ≤ 11) × (length out ≡ length out₀)
@@ -14,8 +14,8 @@ abbrev μ-loop : tie.MeasureT-loop
 loop-holds : tie.Need-loop-holds Inv-loop μ-loop
 loop-holds c = search needs
 
-number-across-requires : tie.Need-number-across-requires Inv-loop μ-loop
-number-across-requires c κs = search needs
+line-up-requires : tie.Need-line-up-requires Inv-loop μ-loop
+line-up-requires c κs = search needs
 
 add-i : tie.Need-add-i Inv-loop μ-loop
 add-i c = search needs
@@ -32,14 +32,14 @@ same-length c = search needs
 returns : tie.Need-returns Inv-loop μ-loop
 returns c = search needs
 
-pub numbers-across-spec : {M : Type 1} → statement M
-numbers-across-spec =
+pub lines-up-spec : {M : Type 1} → statement M
+lines-up-spec =
     tie.close
     (tie.spec
     Inv-loop
     μ-loop
     loop-holds
-    number-across-requires
+    line-up-requires
     add-i
     loop-less
     loop-again
