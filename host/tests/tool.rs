@@ -644,6 +644,19 @@ fn the_stored_runs_have_the_samples() {
 
 /// The script at the top, from anywhere.
 #[test]
+fn the_front_page_shows_what_the_tool_prints() {
+    let folder = Folder::new("front");
+    let drawn = folder.ray(&["draw", "noon.job"]);
+    assert_eq!(drawn.does(), fs::read(top().join("docs/noon.svg")).unwrap());
+    let page = fs::read_to_string(top().join("README.md")).unwrap();
+    let sheet = folder.ray(&["show", "noon.job"]);
+    let upper = sheet.text().split("\nREFLECTRIX").next().unwrap();
+    let indented = |line: &str| if line.is_empty() { String::new() } else { format!("    {line}") };
+    let block: Vec<_> = upper.trim_end().lines().map(indented).collect();
+    assert!(page.contains(&block.join("\n")), "README.md has another sheet");
+}
+
+#[test]
 fn the_script_runs_the_tool() {
     let folder = Folder::new("script");
     let script = top().join("ray");
