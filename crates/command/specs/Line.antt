@@ -1,5 +1,5 @@
 -- The commands by their words.
-use Prim.Native.Nat.{ℕ, suc}
+use Prim.Native.Nat.{ℕ}
 use Prim.Native.Char.{code}
 use Prim.Native.String.{String, len, charAt}
 use mathlib.Core.Bool.{Bool, true, false, cond, _&&_}

@@ -1,14 +1,14 @@
 -- Laws of texts written one after the other. Assumes nothing.
 use mathlib.Core.Path.{_≡_, refl, sym, ap, _∙_, subst}
 use mathlib.Core.Bool.{Bool, true, false}
-use mathlib.Core.List.{List, [], _∷_, _++_, append-nil}
+use mathlib.Core.List.{List, [], _∷_, _++_}
 use Prim.Native.Nat.{ℕ, zero, suc, _+_, _-_, _/_, _%_, _<_, _≤_, min}
 use native.Mathlib.Omega.{arith}
 use native.Mathlib.Nat.{add-zero}
 use native.Mathlib.Numerals.{add-one}
 use lib.Dec.{leb}
-use lib.ListN.{length, getD, take, set, replicate, length-append, length-set}
-use lib.Seq.{set-out, take-suc, take-all}
+use lib.ListN.{length, getD, take, set, replicate, length-append}
+use lib.Seq.{set-out, take-suc}
 use borrow.Author.Tests.{leb-true, leb-false}
 use Rattle.words.specs.Lists.{putAt}
 use Rattle.words.proofs.ListLaws.{length-put, put-put}

@@ -22,8 +22,8 @@ pub fn page(verb: Verb, name: &[u8], job: &[u8], answer: &[u8], out: &mut [u8]) 
     ensures { λ r. ⌜ r ≤ length (now (out .entry)) ⌝ }
 {
     match verb {
-        Verb::Show => sheet::sheet(last(name), job, answer, out),
-        Verb::Draw => drawing::drawing(last(name), job, answer, out),
+        Verb::Show => sheet::sheet(name, job, answer, out),
+        Verb::Draw => drawing::drawing(name, job, answer, out),
         Verb::Job => text(out, 0, answer),
         Verb::Words => listing::listing(answer, out),
         Verb::Check => accepted(name, out),
@@ -38,12 +38,4 @@ fn accepted(name: &[u8], out: &mut [u8]) -> usize
 {
     let a = names::plains(name, out, 0);
     text(out, a, b": accepted\n")
-}
-
-// A name's last part.
-fn last(name: &[u8]) -> &[u8]
-    ensures { λ r. ⌜ length (now r) ≤ length (now (name .entry)) ⌝ }
-{
-    let from = names::last(name);
-    &name[from..]
 }

@@ -1,8 +1,8 @@
 -- A number on the command line: `12`, `12.5`, `12.345`. One digit or more, then perhaps a point and one to three digits; below a million; nothing else.
 use Prim.Native.Nat.{ℕ, _+_, _-_, _*_}
-use mathlib.Core.Bool.{Bool, true, false, cond}
+use mathlib.Core.Bool.{cond}
 use mathlib.Core.List.{List, [], _∷_}
-use lib.Dec.{leb, ltb, eqb}
+use lib.Dec.{ltb, eqb}
 use Rattle.parse.specs.declared.text.Read.{Read}
 use Rattle.parse.specs.declared.text.Read.the-variants.{Nothing, Whole, Point, Tenths, Hundredths, Thousandths, Wrong}
 use Rattle.parse.specs.declared.text.Number.{Number}

@@ -1,14 +1,14 @@
 -- Laws of the texts of numbers: their lengths, and the cases of the definitions. Assumes nothing.
 use mathlib.Core.Path.{_≡_, refl, sym, ap, _∙_, subst}
-use mathlib.Core.Bool.{Bool, true, false, _&&_, cond}
-use mathlib.Core.List.{List, [], _∷_, _++_}
-use Prim.Native.Nat.{ℕ, zero, suc, _+_, _-_, _*_, _/_, _%_, _^_, _<_, _≤_, min}
+use mathlib.Core.Bool.{Bool, true, false, cond}
+use mathlib.Core.List.{List, _∷_, _++_}
+use Prim.Native.Nat.{ℕ, zero, suc, _+_, _-_, _/_, _^_, _<_, _≤_, min}
 use native.Mathlib.Omega.{arith}
 use native.Mathlib.Numerals.{add-one}
-use lib.Dec.{ltb, leb, eqb}
-use lib.ListN.{length, replicate, length-append}
+use lib.Dec.{ltb}
+use lib.ListN.{length, length-append}
 use borrow.Author.Tests.{ltb-false, lt-ltb, le-ltb, le-leb, lt-leb, eq-eqb, ne-eqb}
-use Rattle.rounding.specs.Decimals.{glyph, digits, sizeIn, sizeOf, point, fixed, minus, signed, units, numberText, boundText, shownIn, fractionOf, exponentOf, belowOf, namedText, floatText}
+use Rattle.rounding.specs.Decimals.{digits, sizeIn, sizeOf, point, fixed, minus, signed, units, numberText, boundText, shownIn, fractionOf, exponentOf, belowOf, namedText, floatText}
 
 pub length-digits : (base k n : ℕ) → length (digits base k n) ≡ k
 unfolding digits

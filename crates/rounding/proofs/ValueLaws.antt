@@ -1,13 +1,13 @@
 -- That `units` is the exact value of the bits, rounded: a number's value is a whole number of 2 ^ -149, and its units are that times t, over 2 ^ 149, to the nearest. Assumes nothing.
-use mathlib.Core.Path.{_≡_, refl, sym, ap, _∙_, subst}
+use mathlib.Core.Path.{_≡_, refl, sym, ap, _∙_}
 use mathlib.Core.Bool.{Bool, true, false, cond}
 use Prim.Native.Nat.{ℕ, zero, suc, _+_, _-_, _*_, _/_, _%_, _^_, _<_, _≤_}
 use native.Mathlib.Omega.{arith}
 use native.Mathlib.Nat.{add-zero, add-comm, add-mul, mul-assoc, mul-div-mul-right, mul-div-cancel, mul-mod-left, mul-le-mul-right, mod-lt}
 use lib.Arith.{mod-mul}
 use lib.Pow as Pow
-use lib.Dec.{ltb, leb, eqb, lit<}
-use lib.Ieee.{Float, binary32, ofFields, ofBits, odd}
+use lib.Dec.{ltb, eqb, lit<}
+use lib.Ieee.{binary32, ofFields, ofBits}
 use lib.Ieee.Exact.{HasValue, odd-sign}
 use borrow.Author.Tests.{ltb-true, ltb-false, lt-ltb, le-ltb, ne-eqb}
 use Rattle.rounding.specs.Decimals.{nearest, units, fractionOf, exponentOf, belowOf, significand, field}

@@ -90,7 +90,7 @@ unitsOf w t = units (significand (fractionOf w) (exponentOf w)) (field (exponent
 abbrev pub namedText : Bool → Bool → List ℕ
 namedText nan below = cond nan (78 ∷ 97 ∷ 78 ∷ []) (cond below (45 ∷ 105 ∷ 110 ∷ 102 ∷ []) (105 ∷ 110 ∷ 102 ∷ []))
 
--- from 2 ^ 49 on a number is always shown by its bound: it has 15 digits, and no column as many
+-- from 2 ^ 49 on a number is always shown by its bound: it has 15 digits, and no field of the sheet has 15 columns
 abbrev pub farOf : ℕ → Bool
 farOf e = ltb 175 e
 

@@ -3,46 +3,19 @@ ghost use Prim.Native.Nat.{_≤_};
 ghost use lib.ListN.{length};
 use decimal::fill;
 use decimal::filled;
-use decimal::put;
 use decimal::text;
 use job::layout;
 use view::above;
 use view::critical;
 use view::word;
 
-// The columns of a line, those of a name, and those of a longer name's end behind `...`.
+// The columns of a line.
 const LINE: usize = 78;
-
-const NAME: usize = 48;
-
-const NAME_END: usize = 45;
 
 // The bits of the angles that findf gives a layer that is never pierced, 89.9, or not met, 90; 0 is that of one always pierced.
 const NEVER: u32 = 0x42b3_cccd;
 
 const NOT_MET: u32 = 0x42b4_0000;
-
-fn plain(b: u8) -> u8 {
-    if b < 32 {
-        return b'?';
-    }
-    if b > 126 {
-        return b'?';
-    }
-    b
-}
-
-fn plains(s: &[u8], out: &mut [u8], at: usize) -> usize
-    ensures { λ r. ⌜ r ≤ length (now (out .entry)) ⌝ }
-{
-    let mut to = decimal::inside(at, out);
-    let mut i = 0usize;
-    while i < s.len() {
-        to = put(out, to, plain(s[i]));
-        i += 1;
-    }
-    to
-}
 
 fn less(a: usize, b: usize) -> usize {
     if b < a { a - b } else { 0 }
@@ -52,13 +25,8 @@ fn less(a: usize, b: usize) -> usize {
 fn named(columns: usize, name: &[u8], out: &mut [u8], at: usize) -> usize
     ensures { λ r. ⌜ r ≤ length (now (out .entry)) ⌝ }
 {
-    if name.len() > NAME {
-        let a = fill(out, at, b' ', less(columns, NAME));
-        let b = text(out, a, b"...");
-        return plains(&name[name.len() - NAME_END..], out, b);
-    }
-    let a = fill(out, at, b' ', less(columns, name.len()));
-    plains(name, out, a)
+    let a = fill(out, at, b' ', less(columns, names::width(name)));
+    names::shown(name, out, a)
 }
 
 fn rule(out: &mut [u8], at: usize) -> usize

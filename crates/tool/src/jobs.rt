@@ -1,7 +1,6 @@
 // The commands that read a job and show what the library answers.
 ghost use mathlib.Core.Path.{_≡_};
 ghost use mathlib.Core.Bool.{true};
-ghost use Prim.Native.Nat.{_+_, _≤_};
 ghost use lib.ListN.{length};
 ghost use Rattle.job.specs.Job.{answerBytes, refusalOf};
 ghost use Rattle.system.specs.Status.{isStatus, endsAs};

@@ -1,14 +1,12 @@
 -- Laws of what is read: words past the end, the cases of a slot, the rays counted one slot more. Assumes nothing.
-use mathlib.Core.Path.{_≡_, refl, sym, ap, _∙_}
+use mathlib.Core.Path.{_≡_, sym}
 use mathlib.Core.Bool.{Bool, true, false}
 use mathlib.Core.List.{List}
-use Prim.Native.Nat.{ℕ, suc, _+_, _*_, _/_, _<_, _≤_, min}
+use Prim.Native.Nat.{ℕ, _+_, _*_, _/_, _<_, _≤_}
 use native.Mathlib.Omega.{arith}
-use native.Mathlib.Nat.{min-eq-left, min-eq-right}
 use native.Mathlib.Numerals.{add-one}
-use lib.Dec.{leb, ltb, eqb}
 use lib.ListN.{length, getD, List·getD-eq-default}
-use lib.Ieee.{Float, le}
+use lib.Ieee.{le}
 use borrow.Author.Tests.{le-leb, lt-leb, lt-ltb, le-ltb, eq-eqb, ne-eqb}
 use Rattle.arith.specs.Floats.{f32}
 use Rattle.job.specs.Layout.{word}

@@ -2,8 +2,8 @@ use Rattle.decimal.proofs.WroteLaws.{Run, wrote-none, wrote-again, wrot
 use lib.ListN.{replicate}
 use borrow.Author.Needs.{needs}
 use native.Mathlib.Omega.{arith}
-use mathlib.Core.Path.{_≡_, refl, sym, ap, _∙_}
-use Prim.Native.Nat.{ℕ, _+_, _-_, _≤_}
+use mathlib.Core.Path.{_≡_, ap}
+use Prim.Native.Nat.{ℕ, _-_}
 use Rattle.decimal.proofs.fill.Statement.{statement}
 use Rattle.decimal.proofs.fill.Tie as tie
 

@@ -1,8 +1,5 @@
 use Rattle.decimal.proofs.WroteLaws.{wrote-then, wrote-as, wrote-inside}
 use Rattle.decimal.proofs.NumberTexts.{fixed-is}
-use native.Mathlib.Omega.{arith}
-use Prim.Native.Nat.{ℕ, min}
-use mathlib.Core.Path.{_≡_, refl, sym, ap, _∙_}
 use borrow.Author.Needs.{needs}
 use Rattle.decimal.proofs.fixed.Statement.{statement}
 use Rattle.decimal.proofs.fixed.Tie as tie

@@ -1,7 +1,4 @@
 use borrow.Author.Tests.{lt-ltb, le-ltb}
-use native.Mathlib.Omega.{arith}
-use mathlib.Core.Path.{_≡_, refl, sym, ap, _∙_}
-use Prim.Native.Nat.{ℕ, _+_, _-_, _≤_}
 use borrow.Author.Needs.{needs}
 use Rattle.decimal.proofs.glyph.Statement.{statement}
 use Rattle.decimal.proofs.glyph.Tie as tie

@@ -1,8 +1,6 @@
 use lib.Seq.{length-take-le}
-use borrow.Author.Needs.{needs}
 use native.Mathlib.Omega.{arith}
-use mathlib.Core.Path.{_≡_, refl, sym, ap, _∙_}
-use Prim.Native.Nat.{ℕ, _+_, _-_, _≤_}
+use mathlib.Core.Path.{sym}
 use Rattle.decimal.proofs.inside.Statement.{statement}
 use Rattle.decimal.proofs.inside.Tie as tie
 

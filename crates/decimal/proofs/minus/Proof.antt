@@ -1,8 +1,5 @@
 use Rattle.decimal.proofs.WroteLaws.{wrote-none, wrote-as}
 use Rattle.decimal.proofs.NumberTexts.{minus-is, minus-zero, minus-above}
-use native.Mathlib.Omega.{arith}
-use Prim.Native.Nat.{ℕ, min}
-use mathlib.Core.Path.{_≡_, refl, sym, ap, _∙_}
 use borrow.Author.Needs.{needs}
 use Rattle.decimal.proofs.minus.Statement.{statement}
 use Rattle.decimal.proofs.minus.Tie as tie

@@ -1,8 +1,5 @@
 use Rattle.decimal.proofs.WroteLaws.{wrote-as}
 use Rattle.decimal.proofs.NumberTexts.{nan-is, low-is, high-is}
-use native.Mathlib.Omega.{arith}
-use Prim.Native.Nat.{ℕ, min}
-use mathlib.Core.Path.{_≡_, refl, sym, ap, _∙_}
 use borrow.Author.Needs.{needs}
 use Rattle.decimal.proofs.named.Statement.{statement}
 use Rattle.decimal.proofs.named.Tie as tie

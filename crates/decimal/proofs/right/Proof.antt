@@ -1,8 +1,6 @@
 use Rattle.decimal.proofs.WroteLaws.{wrote-then, wrote-as, wrote-inside}
 use Rattle.decimal.proofs.NumberTexts.{right-is}
-use native.Mathlib.Omega.{arith}
-use Prim.Native.Nat.{ℕ, min}
-use mathlib.Core.Path.{_≡_, refl, sym, ap, _∙_}
+use mathlib.Core.Path.{refl}
 use borrow.Author.Needs.{needs}
 use Rattle.decimal.proofs.right.Statement.{statement}
 use Rattle.decimal.proofs.right.Tie as tie

@@ -2,9 +2,7 @@ use Rattle.rounding.specs.Decimals.{rightIn, textOf}
 use Rattle.rounding.specs.declared.Shown.{Shown}
 use Rattle.decimal.proofs.WroteLaws.{wrote-as}
 use Rattle.decimal.proofs.NumberTexts.{bound-right}
-use native.Mathlib.Omega.{arith}
-use Prim.Native.Nat.{ℕ, min}
-use mathlib.Core.Path.{_≡_, refl, sym, ap, _∙_}
+use mathlib.Core.Path.{sym, ap, _∙_}
 use borrow.Author.Needs.{needs}
 use Rattle.decimal.proofs.show.Statement.{statement}
 use Rattle.decimal.proofs.show.Tie as tie

@@ -1,10 +1,9 @@
 use Rattle.decimal.proofs.WroteLaws.{Front, wrote-none, wrote-next, wrote-as, wrote-long, wrote-inside}
 use lib.Seq.{take-all}
-use lib.ListN.{length, take}
+use lib.ListN.{length}
 use borrow.Author.Needs.{needs}
 use native.Mathlib.Omega.{arith}
-use mathlib.Core.Path.{_≡_, refl, sym, ap, _∙_}
-use Prim.Native.Nat.{ℕ, _+_, _-_, _≤_}
+use Prim.Native.Nat.{_-_}
 use Rattle.decimal.proofs.text.Statement.{statement}
 use Rattle.decimal.proofs.text.Tie as tie
 

@@ -1,7 +1,7 @@
 use Rattle.rounding.proofs.DecimalsLaws.{size-small, signed-above, signed-zero, signed-below, columns-bare, columns-minus}
 use native.Mathlib.Nat.{div-le-self}
 use native.Mathlib.Omega.{arith}
-use Prim.Native.Nat.{ℕ, _/_, min}
+use Prim.Native.Nat.{_/_, min}
 use borrow.Author.Needs.{needs}
 use Rattle.rounding.proofs.columns.Statement.{statement}
 use Rattle.rounding.proofs.columns.Tie as tie

@@ -2,7 +2,7 @@ use Rattle.rounding.proofs.DecimalsLaws.{tried-fits, tried-bound, tried
 use Rattle.rounding.specs.Decimals.{shownIn}
 use native.Mathlib.Omega.{arith}
 use mathlib.Core.Path.{_≡_, refl}
-use Prim.Native.Nat.{ℕ, _≤_}
+use Prim.Native.Nat.{_≤_}
 use borrow.Author.Needs.{needs}
 use Rattle.rounding.proofs.fitting.Statement.{statement}
 use Rattle.rounding.proofs.fitting.Tie as tie

@@ -1,13 +1,11 @@
 -- `decimal::nearest` meets its contract. Assumes nothing.
 use borrow.Author.Needs.{needs}
-use Prim.Native.Nat.{ℕ, _<_, _*_, _+_, _%_, _/_}
-use mathlib.Core.Path.{_≡_, sym, ap}
+use Prim.Native.Nat.{_+_, _/_}
+use mathlib.Core.Path.{sym, ap}
 use mathlib.Core.Bool.{Bool, cond}
 use borrow.Author.Tests.{lt-ltb, le-ltb}
 use native.Mathlib.Omega.{arith}
 use native.Mathlib.Nat.{mod-lt, div-le-self}
-use lib.Dec.{ltb}
-use Rattle.rounding.specs.Decimals.{nearest}
 use Rattle.rounding.proofs.nearest.Statement.{statement}
 use Rattle.rounding.proofs.nearest.Tie as tie
 

@@ -1,8 +1,8 @@
 use Rattle.rounding.specs.Decimals.{digits}
-use lib.Dec.{lit<, lit≤}
+use lib.Dec.{lit≤}
 use native.Mathlib.Omega.{arith}
 use mathlib.Core.Path.{_≡_, refl}
-use Prim.Native.Nat.{ℕ, min}
+use Prim.Native.Nat.{min}
 use Rattle.rounding.proofs.point.Statement.{statement}
 use Rattle.rounding.proofs.point.Tie as tie
 

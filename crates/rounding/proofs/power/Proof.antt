@@ -1,7 +1,7 @@
-use lib.Dec.{lit<, lit≤}
+use lib.Dec.{lit<}
 use native.Mathlib.Omega.{arith}
 use mathlib.Core.Path.{_≡_, refl}
-use Prim.Native.Nat.{ℕ, min}
+use Prim.Native.Nat.{min}
 use Rattle.rounding.proofs.power.Statement.{statement}
 use Rattle.rounding.proofs.power.Tie as tie
 

@@ -2,7 +2,7 @@ use Rattle.rounding.proofs.DecimalsLaws.{size-one, size-more}
 use Rattle.rounding.specs.Decimals.{sizeOf}
 use native.Mathlib.Omega.{arith}
 use mathlib.Core.Path.{_≡_}
-use Prim.Native.Nat.{ℕ, _+_, _≤_}
+use Prim.Native.Nat.{_+_, _≤_}
 use Rattle.rounding.proofs.size.Statement.{statement}
 use Rattle.rounding.proofs.size.Tie as tie
 

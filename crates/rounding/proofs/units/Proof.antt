@@ -1,18 +1,15 @@
 use borrow.Author.Needs.{needs}
 use borrow.Author.Tests.{lt-ltb, le-ltb}
 use Prim.Native.Nat.{ℕ, _+_, _-_, _*_, _/_, _%_, _^_, _≤_, _<_}
-use mathlib.Core.Path.{_≡_, refl, sym, ap, _∙_, subst}
+use mathlib.Core.Path.{_≡_, sym, ap, _∙_, subst}
 use mathlib.Core.Bool.{Bool, cond}
 use native.Mathlib.Omega.{arith}
 use native.Mathlib.Nat.{mod-eq-of-lt, div-eq-of-lt, mul-le-mul, lt-of-le-of-lt, lt-of-lt-of-le, one-mul}
-use lib.Pow.{pow-add, pow-mono, pow-pos, pow-lt, shl-lt, shl-exact}
-use lib.Dec.{ltb, lit≤}
-use Rattle.rounding.specs.Decimals.{nearest, units}
+use lib.Pow.{pow-mono, pow-pos, pow-lt, shl-exact}
+use lib.Dec.{ltb}
+use Rattle.rounding.specs.Decimals.{nearest}
 use Rattle.rounding.proofs.units.Statement.{statement}
 use Rattle.rounding.proofs.units.Tie as tie
-use Rattle.rounding.proofs.units.Reads as reads
-use Rattle.rounding.proofs.units.Lts as lts
-use Rattle.rounding.proofs.nearest.Reads as nearest-reads
 
 small : (m t : ℕ) → m < 2 ^ 24 → t < 2 ^ 10 → m * t < 2 ^ 34
 small m t h k = lt-of-le-of-lt (mul-le-mul {n₁ = m} {m₁ = t} {n₂ = 16777215} {m₂ = 1023} (omega arith) (omega arith)) (omega arith)

@@ -1,8 +1,5 @@
-use lib.ListN.{length}
 use borrow.Author.Needs.{needs}
-use native.Mathlib.Omega.{arith}
-use Prim.Native.Nat.{ℕ, _-_, _≤_}
-use mathlib.Core.Path.{_≡_}
+use Prim.Native.Nat.{_-_, _≤_}
 use Rattle.tables.proofs.some_length.Statement.{statement}
 use Rattle.tables.proofs.some_length.Tie as tie
 

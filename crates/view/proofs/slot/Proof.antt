@@ -1,5 +1,5 @@
-use mathlib.Core.Path.{_≡_, ap, _∙_}
-use Prim.Native.Nat.{ℕ, _+_}
+use mathlib.Core.Path.{_≡_}
+use Prim.Native.Nat.{_+_}
 use lib.Ieee.{le}
 use Rattle.arith.specs.Floats.{f32}
 use Rattle.job.specs.Layout.{word}

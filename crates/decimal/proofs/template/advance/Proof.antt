@@ -1,7 +1,4 @@
 use Rattle.decimal.proofs.FilledLaws.{advanced-field, advanced-plain, advanced-short}
-use native.Mathlib.Omega.{arith}
-use Prim.Native.Nat.{ℕ, _+_, _-_}
-use mathlib.Core.Path.{_≡_, refl, sym, ap, _∙_}
 use borrow.Author.Needs.{needs}
 use Rattle.decimal.proofs.template.advance.Statement.{statement}
 use Rattle.decimal.proofs.template.advance.Tie as tie

@@ -1,8 +1,5 @@
 use Rattle.decimal.proofs.WroteLaws.{wrote-as}
 use Rattle.decimal.proofs.FilledLaws.{field-tenths, field-hex, field-whole, field-most, field-right}
-use native.Mathlib.Omega.{arith}
-use Prim.Native.Nat.{ℕ, _+_, _-_}
-use mathlib.Core.Path.{_≡_, refl, sym, ap, _∙_}
 use borrow.Author.Needs.{needs}
 use Rattle.decimal.proofs.template.field.Statement.{statement}
 use Rattle.decimal.proofs.template.field.Tie as tie

@@ -3,8 +3,7 @@ use Rattle.decimal.proofs.FilledLaws.{Part, part-none, part-more, part-
 use lib.ListN.{length}
 use borrow.Author.Needs.{needs}
 use native.Mathlib.Omega.{arith}
-use Prim.Native.Nat.{ℕ, _+_, _-_}
-use mathlib.Core.Path.{_≡_, refl, sym, ap, _∙_}
+use Prim.Native.Nat.{_-_}
 use Rattle.decimal.proofs.template.filled.Statement.{statement}
 use Rattle.decimal.proofs.template.filled.Tie as tie
 

@@ -1,8 +1,6 @@
 use Rattle.decimal.proofs.FilledLaws.{value-none, value-is}
 use lib.ListN.{List·getD-eq-default}
-use native.Mathlib.Omega.{arith}
-use Prim.Native.Nat.{ℕ, _+_, _-_}
-use mathlib.Core.Path.{_≡_, refl, sym, ap, _∙_}
+use mathlib.Core.Path.{refl, sym}
 use borrow.Author.Needs.{needs}
 use Rattle.decimal.proofs.template.value.Statement.{statement}
 use Rattle.decimal.proofs.template.value.Tie as tie

@@ -1,8 +1,6 @@
 use lib.ListN.{length}
 use borrow.Author.Needs.{needs}
-use native.Mathlib.Omega.{arith}
-use Prim.Native.Nat.{ℕ, _-_, _≤_}
-use mathlib.Core.Path.{_≡_}
+use Prim.Native.Nat.{_≤_}
 use Rattle.sheet.proofs.head.trimmed.Statement.{statement}
 use Rattle.sheet.proofs.head.trimmed.Tie as tie
 

@@ -1,7 +1,6 @@
 use lib.ListN.{length}
 use borrow.Author.Needs.{needs}
-use native.Mathlib.Omega.{arith}
-use Prim.Native.Nat.{ℕ, _-_, _≤_}
+use Prim.Native.Nat.{_-_, _≤_}
 use mathlib.Core.Path.{_≡_}
 use Rattle.tables.proofs.reflectrix.each.Statement.{statement}
 use Rattle.tables.proofs.reflectrix.each.Tie as tie
