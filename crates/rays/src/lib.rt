@@ -16,7 +16,7 @@ pub use order::highest;
 use order::leftward;
 use order::raised;
 
-// How far a ring stands from the line, and how close to an edge the line has no room for one on that side.
+// How far a ring stands from the line.
 const ASIDE: u32 = 280;
 
 // The line of the asked length.
