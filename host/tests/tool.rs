@@ -708,4 +708,18 @@ fn the_script_says_what_it_lacks() {
     let ran = run();
     assert_eq!((ran.status, ran.out.len()), (70, 0));
     assert!(ran.err.contains("the build failed"), "{}", ran.err);
+    // A stand-in that proves two crates, of which one is unchanged, and a tool that prints its words.
+    folder.put("crates.txt", b"arith:\nwords:\ntool_entry: arith words\n");
+    let proved = "rt: arith proved (3 s)\nrt: words proved (unchanged since it was last proved)\n\
+                  rt: tool_entry proved (12 s)\nrt: target/staticlib/libtool_entry.a has it; link os beside it";
+    fake("rt", &format!("#!/bin/sh\necho '{proved}'\n"));
+    fake(
+        "cc",
+        "#!/bin/bash\n{ echo '#!/bin/bash'; echo 'echo \"$@\"'; } >\"$3\"\n/bin/chmod +x \"$3\"\n",
+    );
+    let ran = run();
+    assert_eq!(ran.status, 0, "{}", ran.err);
+    assert_eq!(ran.text(), format!("show {}\n", folder.file("jobs/noon.job").display()));
+    let lines = "ray: 1 of 3: arith proved (3 s)\nray: 3 of 3: tool_entry proved (12 s)\n";
+    assert!(ran.err.contains(lines), "{}", ran.err);
 }
