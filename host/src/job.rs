@@ -41,6 +41,24 @@ fn words_of(bytes: &[u8]) -> impl Iterator<Item = u32> + '_ {
 impl Job {
     pub const BYTES: usize = 5360;
 
+    /// Document 01's sheet: "All-zero tables otherwise; freq 2, fi third 1, ghop 0.5", nang 40.
+    pub fn zeros() -> Self {
+        let zeros = [0.0; 30];
+        let walk = FindfJob {
+            k: 0,
+            nang: 40,
+            freq: 2.0,
+            amind: 0.0,
+            fi: [[0.0, 0.0, 1.0]; 5],
+            fvert: zeros,
+            hprim: zeros,
+            htrue: zeros,
+            afac: zeros,
+            ifob: [0; 1200],
+        };
+        Job { walk, ghop: 0.5 }
+    }
+
     /// "k and nang (unsigned), freq, amind, ghop, fi (5 × 3), fvert, hprim, htrue, afac (30 each),
     /// ifob (40 × 30, signed)", f32 by its bits, NaNs too.
     pub fn bytes(&self) -> Vec<u8> {

@@ -319,22 +319,7 @@ type Named = (&'static str, Vec<u8>, usize);
 /// Document 01's cases by name: "All-zero tables otherwise; freq 2, fi third 1, ghop 0.5", nang 40.
 /// The answer's wrong lengths stand beside the job's.
 fn named() -> Vec<Named> {
-    let zeros = [0.0; 30];
-    let sheet = Job {
-        walk: FindfJob {
-            k: 0,
-            nang: 40,
-            freq: 2.0,
-            amind: 0.0,
-            fi: [[0.0, 0.0, 1.0]; 5],
-            fvert: zeros,
-            hprim: zeros,
-            htrue: zeros,
-            afac: zeros,
-            ifob: [0; 1200],
-        },
-        ghop: 0.5,
-    };
+    let sheet = Job::zeros();
     let with = |name, change: fn(&mut FindfJob)| {
         let mut job = sheet;
         change(&mut job.walk);

@@ -180,24 +180,6 @@ fn job(layers: Layers, freq: f32, amind: f32, km: f64, nang: usize) -> Job {
     Job { walk, ghop: (km / 6370.0) as f32 }
 }
 
-/// Document 01's sheet of zeros.
-fn all_zero() -> Job {
-    let zeros = [0.0; 30];
-    let walk = FindfJob {
-        k: 0,
-        nang: 40,
-        freq: 2.0,
-        amind: 0.0,
-        fi: [[0.0, 0.0, 1.0]; 5],
-        fvert: zeros,
-        hprim: zeros,
-        htrue: zeros,
-        afac: zeros,
-        ifob: [0; 1200],
-    };
-    Job { walk, ghop: 0.5 }
-}
-
 const NOON: Layers = Layers { foe: 3.4, fof1: 4.9, hm1: 195.0, fof2: 8.6, hm2: 300.0, ym2: 85.0 };
 const EVENING: Layers =
     Layers { foe: 2.1, fof1: 0.0, hm1: 190.0, fof2: 6.0, hm2: 310.0, ym2: 80.0 };
@@ -229,7 +211,7 @@ pub fn samples() -> Vec<Sample> {
     };
     let mut bad_table = noon();
     bad_table.walk.hprim[16] = f32::NAN;
-    let mut one_row = all_zero();
+    let mut one_row = Job::zeros();
     one_row.walk.fvert[9] = 2.0;
     vec![
         made("noon", "E, F1 and F2 at 14.2 MHz", 25, 5, noon()),
@@ -288,7 +270,7 @@ pub fn samples() -> Vec<Sample> {
             expected: Expected::Refused(9),
             origin: Origin::Made(Box::new(bad_table)),
         },
-        made("all-zero", "tables of zeros", 0, 0, all_zero()),
+        made("all-zero", "tables of zeros", 0, 0, Job::zeros()),
         made(
             "x-one-row",
             "tables of zeros but for fvert of row 10: one row, at 89.9 deg",

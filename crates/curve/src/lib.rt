@@ -92,16 +92,6 @@ fn line(answer: &[u8], r: usize, across: u32, up: u32, out: &mut [u8], at: usize
     at
 }
 
-fn lines(answer: &[u8], across: u32, up: u32, out: &mut [u8], at: usize) -> usize {
-    let mut to = at;
-    let mut r = 0usize;
-    while r < layout::COLUMN_ROWS {
-        to = line(answer, r, across, up, out, to);
-        r += 1;
-    }
-    to
-}
-
 fn jump(answer: &[u8], r: usize, across: u32, up: u32, out: &mut [u8], at: usize) -> usize
     requires { ⌜ r < 45 ⌝ }
 {
@@ -122,28 +112,17 @@ fn jump(answer: &[u8], r: usize, across: u32, up: u32, out: &mut [u8], at: usize
     )
 }
 
-fn all_jumps(answer: &[u8], across: u32, up: u32, out: &mut [u8], at: usize) -> usize {
-    let mut to = at;
-    let mut r = 0usize;
-    while r < layout::COLUMN_ROWS {
-        to = jump(answer, r, across, up, out, to);
-        r += 1;
-    }
-    to
-}
-
-fn less(a: u32, b: u32) -> u32 {
-    if a < b {
-        return 0;
-    }
-    a - b
-}
-
 // The outline of a layer's mark: dot, square, triangle.
 fn outline(layer: u32, x: u32, y: u32, out: &mut [u8], at: usize) -> usize
     ensures { λ r. ⌜ r ≤ length (now (out .entry)) ⌝ }
 {
-    let v = [x, y, less(x, 40), less(y, 40), less(y, 52)];
+    let v = [
+        x,
+        y,
+        scale::minus(x, 40),
+        scale::minus(y, 40),
+        scale::minus(y, 52),
+    ];
     if layer == 1 {
         return filled(b"<circle cx=\"@At0\" cy=\"@Bt0\" r=\"4.2\" ", &v, out, at);
     }
@@ -186,11 +165,36 @@ fn row_mark(answer: &[u8], r: usize, across: u32, up: u32, out: &mut [u8], at: u
     text(out, a, b"\n")
 }
 
-fn marks(answer: &[u8], across: u32, up: u32, out: &mut [u8], at: usize) -> usize {
+// What is drawn of a row: its part of the layer's line, the jump to it, its mark.
+enum Piece {
+    Line,
+    Jump,
+    Mark,
+}
+
+fn one(
+    piece: Piece,
+    answer: &[u8],
+    r: usize,
+    across: u32,
+    up: u32,
+    out: &mut [u8],
+    at: usize,
+) -> usize
+    requires { ⌜ r < 45 ⌝ }
+{
+    match piece {
+        Piece::Line => line(answer, r, across, up, out, at),
+        Piece::Jump => jump(answer, r, across, up, out, at),
+        Piece::Mark => row_mark(answer, r, across, up, out, at),
+    }
+}
+
+fn each(piece: Piece, answer: &[u8], across: u32, up: u32, out: &mut [u8], at: usize) -> usize {
     let mut to = at;
     let mut r = 0usize;
     while r < layout::COLUMN_ROWS {
-        to = row_mark(answer, r, across, up, out, to);
+        to = one(piece, answer, r, across, up, out, to);
         r += 1;
     }
     to
@@ -205,9 +209,9 @@ pub fn curve(answer: &[u8], across: u32, up: u32, out: &mut [u8], at: usize) -> 
         at,
         b"<g fill=\"none\" stroke-width=\"2.2\" stroke-linejoin=\"round\">\n",
     );
-    let b = lines(answer, across, up, out, a);
+    let b = each(Piece::Line, answer, across, up, out, a);
     let c = text(out, b, b"</g>\n");
-    let d = all_jumps(answer, across, up, out, c);
-    let e = marks(answer, across, up, out, d);
+    let d = each(Piece::Jump, answer, across, up, out, c);
+    let e = each(Piece::Mark, answer, across, up, out, d);
     decimal::inside(e, out)
 }

@@ -33,7 +33,7 @@ pub fn plus(a: usize, b: usize) -> usize
 }
 
 // a - b, or 0.
-fn less(a: usize, b: usize) -> usize
+pub fn less(a: usize, b: usize) -> usize
     ensures { λ r. ⌜ r ≡ a - b ⌝ }
 {
     if b < a { a - b } else { 0 }

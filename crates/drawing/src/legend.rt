@@ -9,7 +9,7 @@ fn layer(answer: &[u8], l: u32, y: u32, foot: u32, out: &mut [u8], at: usize) ->
     let v = [foot, n];
     let a = curve::mark(l, 6700, y, false, out, at);
     let b = filled(b"<text x=\"692\" y=\"@At0\">", &v, out, a);
-    let c = rays::name(l, out, b);
+    let c = names::layer(l, out, b);
     if n == 1 {
         return text(out, c, b", 1 row</text>\n");
     }

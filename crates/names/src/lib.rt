@@ -1,4 +1,4 @@
-// A job's name as the sheet and the drawing show it.
+// Names as the sheet and the drawing show them: a job's and a layer's.
 ghost use Prim.Native.Nat.{_≤_};
 ghost use lib.ListN.{length};
 use decimal::put;
@@ -34,7 +34,7 @@ pub fn plains(s: &[u8], out: &mut [u8], at: usize) -> usize
 }
 
 // Where the last part begins, after the last `/`.
-pub fn last(name: &[u8]) -> usize
+fn last(name: &[u8]) -> usize
     ensures { λ r. ⌜ r ≤ length (now (name .entry)) ⌝ }
 {
     let mut i = name.len();
@@ -76,4 +76,17 @@ pub fn shown(name: &[u8], out: &mut [u8], at: usize) -> usize
 {
     let from = last(name);
     cut(&name[from..], out, at)
+}
+
+// A layer's name, 1 E, 2 F1, else F2.
+pub fn layer(n: u32, out: &mut [u8], at: usize) -> usize
+    ensures { λ r. ⌜ r ≤ length (now (out .entry)) ⌝ }
+{
+    if n == 1 {
+        return text(out, at, b"E");
+    }
+    if n == 2 {
+        return text(out, at, b"F1");
+    }
+    text(out, at, b"F2")
 }

@@ -78,16 +78,6 @@ fn leader(job: &[u8], answer: &[u8], up: u32, i: usize, out: &mut [u8], at: usiz
     )
 }
 
-fn leaders(job: &[u8], answer: &[u8], up: u32, out: &mut [u8], at: usize) -> usize {
-    let mut to = at;
-    let mut i = 0usize;
-    while i < layout::SLOTS {
-        to = leader(job, answer, up, i, out, to);
-        i += 1;
-    }
-    to
-}
-
 fn ringed(job: &[u8], answer: &[u8], up: u32, i: usize, out: &mut [u8], at: usize) -> usize
     requires { ⌜ i < 6 ⌝ }
 {
@@ -110,16 +100,6 @@ fn ringed(job: &[u8], answer: &[u8], up: u32, i: usize, out: &mut [u8], at: usiz
         out,
         at,
     )
-}
-
-fn all_ringed(job: &[u8], answer: &[u8], up: u32, out: &mut [u8], at: usize) -> usize {
-    let mut to = at;
-    let mut i = 0usize;
-    while i < layout::SLOTS {
-        to = ringed(job, answer, up, i, out, to);
-        i += 1;
-    }
-    to
 }
 
 fn is_low(job: &[u8], answer: &[u8], s: usize) -> bool
@@ -163,12 +143,37 @@ fn low(job: &[u8], answer: &[u8], up: u32, s: usize, out: &mut [u8], at: usize) 
     )
 }
 
-fn lows(job: &[u8], answer: &[u8], up: u32, out: &mut [u8], at: usize) -> usize {
+// What is drawn of a rank or a slot: the leader to a ring, the dot and the ring, a slot that is too low.
+enum Piece {
+    Leader,
+    Ring,
+    Low,
+}
+
+fn one(
+    piece: Piece,
+    job: &[u8],
+    answer: &[u8],
+    up: u32,
+    i: usize,
+    out: &mut [u8],
+    at: usize,
+) -> usize
+    requires { ⌜ i < 6 ⌝ }
+{
+    match piece {
+        Piece::Leader => leader(job, answer, up, i, out, at),
+        Piece::Ring => ringed(job, answer, up, i, out, at),
+        Piece::Low => low(job, answer, up, i, out, at),
+    }
+}
+
+fn each(piece: Piece, job: &[u8], answer: &[u8], up: u32, out: &mut [u8], at: usize) -> usize {
     let mut to = at;
-    let mut s = 0usize;
-    while s < layout::SLOTS {
-        to = low(job, answer, up, s, out, to);
-        s += 1;
+    let mut i = 0usize;
+    while i < layout::SLOTS {
+        to = one(piece, job, answer, up, i, out, to);
+        i += 1;
     }
     to
 }
@@ -177,23 +182,10 @@ fn lows(job: &[u8], answer: &[u8], up: u32, out: &mut [u8], at: usize) -> usize 
 pub fn rays(job: &[u8], answer: &[u8], up: u32, out: &mut [u8], at: usize) -> usize
     ensures { λ r. ⌜ r ≤ length (now (out .entry)) ⌝ }
 {
-    let a = leaders(job, answer, up, out, at);
-    let b = all_ringed(job, answer, up, out, a);
-    let c = lows(job, answer, up, out, b);
+    let a = each(Piece::Leader, job, answer, up, out, at);
+    let b = each(Piece::Ring, job, answer, up, out, a);
+    let c = each(Piece::Low, job, answer, up, out, b);
     decimal::inside(c, out)
-}
-
-// A layer's name, 1 E, 2 F1, else F2.
-pub fn name(layer: u32, out: &mut [u8], at: usize) -> usize
-    ensures { λ r. ⌜ r ≤ length (now (out .entry)) ⌝ }
-{
-    if layer == 1 {
-        return text(out, at, b"E");
-    }
-    if layer == 2 {
-        return text(out, at, b"F1");
-    }
-    text(out, at, b"F2")
 }
 
 // The list's line of slot s, where it holds a ray.
@@ -216,7 +208,7 @@ fn listed(job: &[u8], answer: &[u8], s: usize, out: &mut [u8], at: usize) -> usi
         out,
         at,
     );
-    let b = name(view::word(answer, layout::ITMOD + s), out, a);
+    let b = names::layer(view::word(answer, layout::ITMOD + s), out, a);
     text(out, b, b"</text>\n")
 }
 

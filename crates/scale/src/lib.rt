@@ -201,7 +201,8 @@ pub const HIGHEST_RING: u32 = TOP + 90;
 
 pub const APART: u32 = 190;
 
-fn minus(a: u32, b: u32) -> u32
+// a - b, or 0.
+pub fn minus(a: u32, b: u32) -> u32
     ensures { λ r. ⌜ r ≡ a - b ⌝ }
 {
     if b <= a {

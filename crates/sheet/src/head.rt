@@ -3,6 +3,7 @@ ghost use Prim.Native.Nat.{_≤_};
 ghost use lib.ListN.{length};
 use decimal::fill;
 use decimal::filled;
+use decimal::less;
 use decimal::text;
 use job::layout;
 use view::above;
@@ -16,10 +17,6 @@ const LINE: usize = 78;
 const NEVER: u32 = 0x42b3_cccd;
 
 const NOT_MET: u32 = 0x42b4_0000;
-
-fn less(a: usize, b: usize) -> usize {
-    if b < a { a - b } else { 0 }
-}
 
 // The name right in so many columns.
 fn named(columns: usize, name: &[u8], out: &mut [u8], at: usize) -> usize

@@ -16,17 +16,15 @@ pub use reflectrix::rows;
 // The bits of 10000 km, the skip distance where no row is nearer.
 const FARTHEST_SKIP: u32 = 0x461c_4000;
 
-// A layer's letters, in two columns.
+// A layer's name, in two columns.
 fn letters(n: u32, out: &mut [u8], at: usize) -> usize
     ensures { λ r. ⌜ r ≤ length (now (out .entry)) ⌝ }
 {
+    let a = names::layer(n, out, at);
     if n == 1 {
-        return text(out, at, b"E ");
+        return decimal::put(out, a, b' ');
     }
-    if n == 2 {
-        return text(out, at, b"F1");
-    }
-    text(out, at, b"F2")
+    a
 }
 
 // The values of slot s. The last is the virtual height without its minus, which in a slot that is too low is the slot's mark.
@@ -106,16 +104,6 @@ fn some_length(answer: &[u8], w: u32) -> bool {
     found
 }
 
-// A layer's letters.
-fn layer(n: u32, out: &mut [u8], at: usize) -> usize
-    ensures { λ r. ⌜ r ≤ length (now (out .entry)) ⌝ }
-{
-    if n == 1 {
-        return text(out, at, b"E");
-    }
-    letters(n, out, at)
-}
-
 fn nearest(answer: &[u8], out: &mut [u8], at: usize) -> usize
     ensures { λ r. ⌜ r ≤ length (now (out .entry)) ⌝ }
 {
@@ -132,7 +120,7 @@ fn nearest(answer: &[u8], out: &mut [u8], at: usize) -> usize
         }
     }
     let a = filled(b"@A1i km at @B3i deg, layer ", &v, out, at);
-    let b = layer(word(answer, layout::ISKP), out, a);
+    let b = names::layer(word(answer, layout::ISKP), out, a);
     text(out, b, b"\n")
 }
 

@@ -2,20 +2,20 @@ use borrow.Author.Needs.{needs}
 use Prim.Native.Nat.{_+_, _-_, _≤_}
 use mathlib.Core.Path.{_≡_}
 use lib.ListN.{length}
-use Rattle.curve.proofs.all_jumps.Statement.{statement}
-use Rattle.curve.proofs.all_jumps.Tie as tie
+use Rattle.curve.proofs.each.Statement.{statement}
+use Rattle.curve.proofs.each.Tie as tie
 
 abbrev Inv-loop : tie.InvT-loop
-Inv-loop answer across up out₀ at to₀ r₀ out to r = (r ≤ 45) × (length out ≡ length out₀)
+Inv-loop piece answer across up out₀ at to₀ r₀ out to r = (r ≤ 45) × (length out ≡ length out₀)
 
 abbrev μ-loop : tie.MeasureT-loop
-μ-loop answer across up out₀ at to₀ r₀ out to r = 45 - r
+μ-loop piece answer across up out₀ at to₀ r₀ out to r = 45 - r
 
 loop-holds : tie.Need-loop-holds Inv-loop μ-loop
 loop-holds c = search needs
 
-jump-requires : tie.Need-jump-requires Inv-loop μ-loop
-jump-requires c κs = search needs
+one-requires : tie.Need-one-requires Inv-loop μ-loop
+one-requires c κs = search needs
 
 add-r : tie.Need-add-r Inv-loop μ-loop
 add-r c = search needs
@@ -32,14 +32,14 @@ same-length c = search needs
 returns : tie.Need-returns Inv-loop μ-loop
 returns c = search needs
 
-pub all-jumps-spec : {M : Type 1} → statement M
-all-jumps-spec =
+pub each-spec : {M : Type 1} → statement M
+each-spec =
     tie.close
     (tie.spec
     Inv-loop
     μ-loop
     loop-holds
-    jump-requires
+    one-requires
     add-r
     loop-less
     loop-again

@@ -1,24 +1,24 @@
-use borrow.Author.Needs.{needs}
 use Prim.Native.Nat.{_+_, _-_, _≤_}
+use borrow.Author.Needs.{needs}
 use mathlib.Core.Path.{_≡_}
 use lib.ListN.{length}
-use Rattle.curve.proofs.lines.Statement.{statement}
-use Rattle.curve.proofs.lines.Tie as tie
+use Rattle.rays.proofs.each.Statement.{statement}
+use Rattle.rays.proofs.each.Tie as tie
 
 abbrev Inv-loop : tie.InvT-loop
-Inv-loop answer across up out₀ at to₀ r₀ out to r = (r ≤ 45) × (length out ≡ length out₀)
+Inv-loop piece job answer up out₀ at to₀ i₀ out to i = (i ≤ 6) × (length out ≡ length out₀)
 
 abbrev μ-loop : tie.MeasureT-loop
-μ-loop answer across up out₀ at to₀ r₀ out to r = 45 - r
+μ-loop piece job answer up out₀ at to₀ i₀ out to i = 6 - i
 
 loop-holds : tie.Need-loop-holds Inv-loop μ-loop
 loop-holds c = search needs
 
-line-requires : tie.Need-line-requires Inv-loop μ-loop
-line-requires c κs = search needs
+one-requires : tie.Need-one-requires Inv-loop μ-loop
+one-requires c κs = search needs
 
-add-r : tie.Need-add-r Inv-loop μ-loop
-add-r c = search needs
+add-i : tie.Need-add-i Inv-loop μ-loop
+add-i c = search needs
 
 loop-less : tie.Need-loop-less Inv-loop μ-loop
 loop-less c = search needs
@@ -32,15 +32,15 @@ same-length c = search needs
 returns : tie.Need-returns Inv-loop μ-loop
 returns c = search needs
 
-pub lines-spec : {M : Type 1} → statement M
-lines-spec =
+pub each-spec : {M : Type 1} → statement M
+each-spec =
     tie.close
     (tie.spec
     Inv-loop
     μ-loop
     loop-holds
-    line-requires
-    add-r
+    one-requires
+    add-i
     loop-less
     loop-again
     same-length
