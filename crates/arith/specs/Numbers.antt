@@ -32,6 +32,9 @@ abbrev pub 1·0 : Float
 abbrev pub 2·0 : Float
 2·0 = f32 0x4000_0000
 
+abbrev pub 3·2 : Float
+3·2 = f32 0x404c_cccd
+
 abbrev pub 4·0 : Float
 4·0 = f32 0x4080_0000
 
@@ -40,6 +43,9 @@ abbrev pub 5·0 : Float
 
 abbrev pub 30·0 : Float
 30·0 = f32 0x41f0_0000
+
+abbrev pub 80·0 : Float
+80·0 = f32 0x42a0_0000
 
 abbrev pub 89·9 : Float
 89·9 = f32 0x42b3_cccd
@@ -53,6 +59,9 @@ abbrev pub 90·0 : Float
 abbrev pub 100·0 : Float
 100·0 = f32 0x42c8_0000
 
+abbrev pub 200·0 : Float
+200·0 = f32 0x4348_0000
+
 abbrev pub 999·0 : Float
 999·0 = f32 0x4479_c000
 
@@ -64,6 +73,9 @@ abbrev pub 2000·0 : Float
 
 abbrev pub 10000·0 : Float
 10000·0 = f32 0x461c_4000
+
+abbrev pub 20100·0 : Float
+20100·0 = f32 0x469d_0800
 
 abbrev pub 99999·0 : Float
 99999·0 = f32 0x47c3_4f80

@@ -11,6 +11,9 @@ pub const R2D: f32 = 57.295779513;
 
 pub const PIO2: f32 = 1.570796326;
 
+// The speed of light, in km a millisecond.
+pub const VOFL: f32 = 299.79246;
+
 // x.abs()
 pub fn abs(x: f32) -> f32
     ensures { λ r. ⌜ r ≡ absOf x ⌝ }

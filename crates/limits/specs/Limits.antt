@@ -1,4 +1,4 @@
--- Document 01, "The bytes of a job": the numbers of the refusals, and the ranges 3 to 13, each by its sentence and a test that computes. "Ends are included."
+-- Document 01, "The bytes of a job", and the orders of document 02: the numbers of the refusals, and the ranges from 3 on, each by its sentence and a test that computes. "Ends are included."
 use Prim.Native.Nat.{ℕ, zero, suc, _+_}
 use mathlib.Core.Bool.{Bool, true, false, _&&_}
 use mathlib.Core.List.{List, [], _∷_}
@@ -6,10 +6,10 @@ use lib.Dec.{leb}
 use lib.ListN.{getD}
 use lib.IntN.{ℤ, pos, negsuc}
 use lib.Signed.{leZ}
-use lib.Ieee.{Float, neg, le}
+use lib.Ieee.{Float, nan, neg, le}
 use Rattle.limits.specs.declared.Checked.{Checked}
 use Rattle.limits.specs.declared.Checked.the-variants.{Within, Broken}
-use Rattle.arith.specs.Numbers.{0·0, 0·1, 2·0, 4·0, 30·0, 90·0, 100·0, 2000·0, 10000·0, 1000000·0}
+use Rattle.arith.specs.Numbers.{0·0, 0·001, 0·1, 2·0, 3·2, 4·0, 30·0, 80·0, 90·0, 100·0, 200·0, 2000·0, 10000·0, 20100·0, 1000000·0}
 
 -- from lo to hi; "NaN never is within", and −0 lies within a range that starts at 0
 unfoldable pub within : Float → Float → Float → Bool
@@ -127,3 +127,35 @@ refusalLayer = 13
 
 abbrev pub layerWithin : ℕ → Bool
 layerWithin layer = leb 1 layer && leb layer 4
+
+-- Order 1. 14: "a point count outside 1 to 5, or a number outside these ranges (of the points, only those counted)"
+abbrev pub refusalEs : ℕ
+refusalEs = 14
+
+abbrev pub kmWithin : ℕ → Bool
+kmWithin km = leb 1 km && leb km 5
+
+-- "hs is 80 to 200, gcd 0.001 to 3.2, gcdkm 0 to 20100, each fs and fsdead 0 to 100."
+abbrev pub hsWithin : Float → Bool
+hsWithin = within 80·0 200·0
+
+abbrev pub gcdWithin : Float → Bool
+gcdWithin = within 0·001 3·2
+
+abbrev pub gcdkmWithin : Float → Bool
+gcdkmWithin = within 0·0 20100·0
+
+abbrev pub fsWithin : Float → Bool
+fsWithin = within 0·0 100·0
+
+-- a point by its three fs and its hs; what is missing counts as NaN
+abbrev pub pointWithin : List Float → Float → Bool
+pointWithin fs hs = hsWithin hs && (fsWithin (getD fs 0 nan) && (fsWithin (getD fs 1 nan) && fsWithin (getD fs 2 nan)))
+
+-- the first n points
+unfoldable pub pointsWithin : List (List Float) → List Float → ℕ → Bool
+pointsWithin fs hs zero = true
+pointsWithin fs hs (suc i) = pointsWithin fs hs i && pointWithin (getD fs i []) (getD hs i nan)
+
+unfoldable pub esWithin : ℕ → List (List Float) → List Float → Float → Float → Float → Bool
+esWithin km fs hs gcd gcdkm fsdead = kmWithin km && (pointsWithin fs hs km && (gcdWithin gcd && (gcdkmWithin gcdkm && fsWithin fsdead)))

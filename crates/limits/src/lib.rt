@@ -1,8 +1,10 @@
-// The ranges that a job, `accumulate` and `prbmuf` are held to, each with the number of its refusal (document 01, "The bytes of a job"). Limits 1 and 2 are lengths: a call's own layout has them, and here are their numbers.
+// The ranges that a job, `accumulate`, `prbmuf` and `esmod` are held to, each with the number of its refusal (document 01, "The bytes of a job"; document 02, order 1). Limits 1 and 2 are lengths: a call's own layout has them, and here are their numbers.
 ghost use mathlib.Core.Path.{_≡_};
+ghost use Prim.Native.Nat.{_≤_};
 ghost use Rattle.limits.specs.Limits.{kWithin, nangWithin, freqWithin, amindWithin, ghopWithin, fiWithin};
 ghost use Rattle.limits.specs.Limits.{fvertWithin, hprimWithin, htrueWithin, afacWithin, entriesWithin};
 ghost use Rattle.limits.specs.Limits.{slotsWithin, countWithin, layerWithin};
+ghost use Rattle.limits.specs.Limits.{kmWithin, hsWithin, gcdWithin, gcdkmWithin, fsWithin, pointWithin, pointsWithin, esWithin};
 ghost use Rattle.limits.specs.Limits.{checkedBy, numberOf};
 ghost use Rattle.limits.specs.Limits as meant;
 
@@ -32,6 +34,8 @@ pub const REFUSAL_SLOTS: u32 = 11;
 pub const REFUSAL_COUNT: u32 = 12;
 
 pub const REFUSAL_LAYER: u32 = 13;
+
+pub const REFUSAL_ES: u32 = 14;
 
 // The answer of a checked group of limits: all hold, or the number of the first that is broken.
 pub enum Checked {
@@ -166,4 +170,73 @@ pub fn layer_within(layer: usize) -> bool
     ensures { λ r. ⌜ r ≡ layerWithin layer ⌝ }
 {
     (1 <= layer) & (layer <= 4)
+}
+
+pub fn km_within(km: usize) -> bool
+    ensures { λ r. ⌜ r ≡ kmWithin km ⌝ }
+{
+    (1 <= km) & (km <= 5)
+}
+
+pub fn hs_within(hs: f32) -> bool
+    ensures { λ r. ⌜ r ≡ hsWithin hs ⌝ }
+{
+    within(80.0, 200.0, hs)
+}
+
+pub fn gcd_within(gcd: f32) -> bool
+    ensures { λ r. ⌜ r ≡ gcdWithin gcd ⌝ }
+{
+    within(0.001, 3.2, gcd)
+}
+
+pub fn gcdkm_within(gcdkm: f32) -> bool
+    ensures { λ r. ⌜ r ≡ gcdkmWithin gcdkm ⌝ }
+{
+    within(0.0, 20100.0, gcdkm)
+}
+
+// Of each of a point's three, and of fsdead.
+pub fn fs_within(fs: f32) -> bool
+    ensures { λ r. ⌜ r ≡ fsWithin fs ⌝ }
+{
+    within(0.0, 100.0, fs)
+}
+
+fn point_within(fs: &[f32; 3], hs: f32) -> bool
+    ensures { λ r. ⌜ r ≡ pointWithin (now (fs .entry)) hs ⌝ }
+{
+    hs_within(hs) & (fs_within(fs[0]) & (fs_within(fs[1]) & fs_within(fs[2])))
+}
+
+// The first km points. Those that are not counted may be anything.
+fn points_within(fs: &[[f32; 3]; 5], hs: &[f32; 5], km: usize) -> bool
+    requires { ⌜ km ≤ 5 ⌝ }
+    ensures { λ r. ⌜ r ≡ pointsWithin (now (fs .entry)) (now (hs .entry)) km ⌝ }
+{
+    let mut ok = true;
+    let mut i = 0usize;
+    while i < km {
+        let point = fs[i];
+        ok = ok & point_within(&point, hs[i]);
+        i += 1;
+    }
+    ok
+}
+
+pub fn es_within(
+    km: usize,
+    fs: &[[f32; 3]; 5],
+    hs: &[f32; 5],
+    gcd: f32,
+    gcdkm: f32,
+    fsdead: f32,
+) -> bool
+    ensures { λ r. ⌜ r ≡ esWithin km (now (fs .entry)) (now (hs .entry)) gcd gcdkm fsdead ⌝ }
+{
+    if km_within(km) {
+        points_within(fs, hs, km) & (gcd_within(gcd) & (gcdkm_within(gcdkm) & fs_within(fsdead)))
+    } else {
+        false
+    }
 }
