@@ -6,7 +6,7 @@ use mathlib.Core.List.{List, [], _∷_, _++_}
 use native.Mathlib.Omega.{arith}
 use borrow.Author.Tests.{leb-true}
 use lib.Dec.{leb}
-use Rattle.limits.specs.Limits.{broken, slotsWithin, layerWithin}
+use Rattle.limits.specs.Limits.{broken, slotsWithin, layerWithin, kmWithin}
 
 -- both tests of a range passed
 pub both : (s t : Bool) → (s && t) ≡ true → (s ≡ true) × (t ≡ true)
@@ -20,6 +20,9 @@ slots-within ist lst = orders 1 ist lst 7
 
 pub layer-within : (layer : ℕ) → layerWithin layer ≡ true → (1 ≤ layer) × (layer ≤ 4)
 layer-within layer = orders 1 layer layer 4
+
+pub km-within : (km : ℕ) → kmWithin km ≡ true → (1 ≤ km) × (km ≤ 5)
+km-within km = orders 1 km km 5
 
 -- ---- the first limit broken
 
