@@ -32,11 +32,11 @@ pointOf fs (suc is) = let k = pointOf fs is in cond (lt 0·0 (middleOf fs k ⊖ 
 abbrev pub emptyHop : EsHop
 emptyHop = record { b = neg 1·0; hn = neg 1·0; hp = neg 1·0; timed = neg 1·0 }
 
--- half the hop's angle at the earth's centre (lines 1493 to 1494)
+-- half the hop's angle at the earth's centre (lines 1493 to 1495)
 unfoldable pub thetOf : Float → Float → Float
 thetOf gcd gp = 0·5 ⊗ (gcd ⊘ gp)
 
--- the take-off angle in radians (lines 1495 to 1497, 1501)
+-- the take-off angle in radians (lines 1496, 1497, 1501)
 unfoldable pub delOf : Float → Float → Float
 delOf hs thet = (PIO2 ⊖ thet) ⊖ atanOf (sinOf thet ⊘ ((1·0 ⊖ cosOf thet) ⊕ (hs ⊘ RZ)))
 
@@ -44,7 +44,7 @@ delOf hs thet = (PIO2 ⊖ thet) ⊖ atanOf (sinOf thet ⊘ ((1·0 ⊖ cosOf thet
 unfoldable pub pathOf : Float → Float → Float → Float → Float
 pathOf hs gp thet del = gp ⊗ (((2·0 ⊗ sinOf thet) ⊗ (RZ ⊕ hs)) ⊘ cosOf del)
 
--- "A hop below amind uses up its slot and leaves the empty values there" (lines 1502 to 1506); else its count, the layer's height, its angle in degrees and its delay in ms (lines 1551, 1554, 1555, 1559)
+-- "A hop below amind uses up its slot and leaves the empty values there" (lines 1503 to 1506); else its count, the layer's height, its angle in degrees and its delay in ms (lines 1551, 1554, 1555, 1559)
 unfoldable pub hopOf : Float → Float → Float → Float → EsHop
 hopOf hs gcd amind gp =
     let thet = thetOf gcd gp in
@@ -57,25 +57,25 @@ hopOf hs gcd amind gp =
 unfoldable pub sdmaxOf : Float → Float
 sdmaxOf hs = (2·0 ⊗ RZ) ⊗ (PIO2 ⊖ asinOf (1·0 ⊘ (1·0 ⊕ (hs ⊘ RZ))))
 
--- the first number of hops that can reach, cut towards zero (line 1483). The Rust cuts to an i32: within the limits it is at least 1, so the sign is nothing (EsmodLaws, `first-hop`)
+-- the first number of hops that can reach, cut towards zero (line 1483). The Rust cuts to an i32: within the limits it is at least 1, so the sign is nothing (EsmodLaws, `from-hop-1`, `ihsrt-signed`)
 unfoldable pub ihsrtOf : Float → Float → ℕ
 ihsrtOf hs gcdkm = toUnsigned 31 ((gcdkm ⊘ sdmaxOf hs) ⊕ 1·0)
 
--- "Two hops at most are tried": a slot's hop, if it is not beyond the second (lines 1484 to 1490)
+-- "Two hops at most are tried": a slot's hop, if it is not beyond the second (lines 1484 to 1487, 1490)
 unfoldable pub slotOf : Float → Float → Float → ℕ → EsHop
 slotOf hs gcd amind ihop = cond (leb ihop 2) (hopOf hs gcd amind (ofInt binary32 (pos ihop))) emptyHop
 
--- accepted, with these two slots
-abbrev pub modes : EsHop → EsHop → EsModes
-modes slot4 slot5 = record { refusal = 0; slot4 = slot4; slot5 = slot5 }
+-- both slots empty, with the number of a refusal or 0
+abbrev pub noHops : ℕ → EsModes
+noHops n = record { refusal = n; slot4 = emptyHop; slot5 = emptyHop }
 
 -- the first hop in slot 4, the next in slot 5, whatever became of the first (lines 1488 to 1492)
 unfoldable pub hopsOf : Float → Float → Float → Float → EsModes
-hopsOf hs gcd gcdkm amind = let ihsrt = ihsrtOf hs gcdkm in modes (slotOf hs gcd amind ihsrt) (slotOf hs gcd amind (suc ihsrt))
+hopsOf hs gcd gcdkm amind = let ihsrt = ihsrtOf hs gcdkm in record { refusal = 0; slot4 = slotOf hs gcd amind ihsrt; slot5 = slotOf hs gcd amind (suc ihsrt) }
 
 -- by the chosen point's middle fs and hs: both empty where freq ≤ fsdead or fs ≤ 0 (lines 1475 to 1480)
 unfoldable pub modesOf : Float → Float → Float → Float → Float → Float → Float → EsModes
-modesOf fs hs gcd gcdkm amind freq fsdead = cond (le freq fsdead) (modes emptyHop emptyHop) (cond (le fs 0·0) (modes emptyHop emptyHop) (hopsOf hs gcd gcdkm amind))
+modesOf fs hs gcd gcdkm amind freq fsdead = cond (le freq fsdead) (noHops 0) (cond (le fs 0·0) (noHops 0) (hopsOf hs gcd gcdkm amind))
 
 -- ---- the call
 
@@ -86,7 +86,7 @@ limitsOf km fs hs gcd gcdkm amind freq fsdead = (refusalFreq, freqWithin freq) �
 -- a refused answer has the number, and both slots empty
 unfoldable pub answerOf : ℕ → EsModes → EsModes
 answerOf zero m = m
-answerOf (suc n) m = record { refusal = suc n; slot4 = emptyHop; slot5 = emptyHop }
+answerOf (suc n) m = noHops (suc n)
 
 unfoldable pub esmodOf : ℕ → List (List Float) → List Float → Float → Float → Float → Float → Float → EsModes
 esmodOf km fs hs gcd gcdkm amind freq fsdead =
