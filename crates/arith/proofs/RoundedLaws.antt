@@ -1,8 +1,8 @@
 -- The sign of a rounded result, and a number cut to a whole one. Assumes nothing.
 use mathlib.Core.Path.{_≡_, refl, sym, ap, _∙_, subst}
-use mathlib.Core.Bool.{Bool, true, false, not, _&&_, cond}
-use Prim.Native.Nat.{ℕ, zero, suc, _+_, _-_, _*_, _/_, _%_, _^_, _≤_, _<_, zero-le, suc-le-suc, min}
-use native.Mathlib.Nat.{le-trans, le-of-eq, lt-of-not-le, not-le-of-lt, mul-one, one-mul, zero-mul, add-comm, add-mul, mul-comm, mul-assoc, mul-right-comm, mul-sub, le-div-iff-mul-le, mul-le-mul-right, mul-pos, zero-lt-suc}
+use mathlib.Core.Bool.{Bool, true, false, not, _&&_, cond, not-and-self}
+use Prim.Native.Nat.{ℕ, zero, suc, _+_, _-_, _*_, _/_, _%_, _^_, _≤_, _<_, min}
+use native.Mathlib.Nat.{le-trans, le-of-eq, lt-of-not-le, not-le-of-lt, mul-one, one-mul, zero-mul, add-comm, add-mul, mul-comm, mul-assoc, mul-right-comm, mul-sub, le-div-iff-mul-le, le-mul-of-pos-right, mul-pos, zero-lt-suc}
 use native.Mathlib.Omega.{arith}
 use lib.Dec.{T, leb, ltb, eqb, leb→le, ltb→lt, eqb→eq, lit<}
 use lib.IntN.{ℤ, pos, negsuc}
@@ -13,7 +13,7 @@ use lib.Ieee.Bits.{is-true}
 use lib.Ieee.Exact.{HasValue}
 use lib.Ieee.Order.{le-of-values, round-mono}
 use lib.Ieee.Scale.{round-same, finite}
-use lib.Ieee.Positive.{positive, above, above-of-le, positive-of-value, le→cross, values-of-le}
+use lib.Ieee.Positive.{positive, above, above-of-le, first-pos, positive-of-value, le→cross, values-of-le}
 use borrow.Author.Tests.{ltb-true, ltb-false, lt-ltb, le-ltb, le-leb, leb-true, leb-false, ne-eqb}
 use Rattle.arith.specs.Floats.{_⊕_, _⊖_, _⊘_}
 use Rattle.arith.specs.Numbers.{0·0, 1·0}
@@ -53,21 +53,17 @@ least : T (positive (round binary32 false 1 (2 ^ 149)))
 unfolding round size units odd
 least = tt
 
-round-above : (a c : ℕ) → 0 < c → c ≤ a * 2 ^ 149 → T (above (round binary32 false a c))
-round-above a c C h = above-of-le (round binary32 false 1 (2 ^ 149)) (round binary32 false a c) least (round-mono binary32 1 (2 ^ 149) a c (lit< tt) C (le-trans (le-of-eq (one-mul c)) h))
-
 -- a / c is n times 2 ^ -149
-at-least : (a c n : ℕ) → a * 2 ^ 149 ≡ n * c → 0 < a → c ≤ a * 2 ^ 149
-at-least a c zero e h = no-product a (2 ^ 149) h (lit< tt) (e ∙ zero-mul c)
-  where
-    no-product : {X : Type 0} (a l : ℕ) → 0 < a → 0 < l → a * l ≡ 0 → X
-    no-product a l h k e = let p : 0 < a * l = mul-pos h k in absurd (omega arith)
-at-least a c (suc n) e h = le-trans (le-of-eq (sym (one-mul c))) (le-trans (mul-le-mul-right c (suc-le-suc zero-le)) (le-of-eq (sym e)))
+round-above : (a c n : ℕ) → 0 < c → a * 2 ^ 149 ≡ n * c → 0 < a → T (above (round binary32 false a c))
+round-above a c n C e h =
+    let k : 0 < n * c = subst (λ (x : ℕ). 0 < x) e (mul-pos h (lit< tt)) in
+    let l : c ≤ a * 2 ^ 149 = le-trans (le-mul-of-pos-right c (first-pos n c k)) (le-of-eq (mul-comm c n ∙ sym e)) in
+    above-of-le (round binary32 false 1 (2 ^ 149)) (round binary32 false a c) least (round-mono binary32 1 (2 ^ 149) a c (lit< tt) C (le-trans (le-of-eq (one-mul c)) l))
 
 sign-of : (s : Bool) (a c n : ℕ) → 0 < c → a * 2 ^ 149 ≡ n * c → lt 0·0 (round binary32 s a c) ≡ (not s && ltb 0 a)
 sign-of true a c n C e = round-negative a c
 sign-of false zero c n C e = ap (lt 0·0) (round-0 false c C) ∙ unfold lt ofBits in refl
-sign-of false (suc a) c n C e = above-is (round binary32 false (suc a) c) ∙ is-true _ (round-above (suc a) c C (at-least (suc a) c n e (zero-lt-suc a))) ∙ sym (lt-ltb 0 (suc a) (zero-lt-suc a))
+sign-of false (suc a) c n C e = above-is (round binary32 false (suc a) c) ∙ is-true _ (round-above (suc a) c n C e (zero-lt-suc a)) ∙ sym (lt-ltb 0 (suc a) (zero-lt-suc a))
 
 -- ---- a difference of two f32
 
@@ -91,10 +87,6 @@ above-apart : (a b : ℕ) (t : Bool) → ltb b a ≡ t → ltb 0 (a - b) ≡ t
 above-apart a b true e = let h = ltb-true b a e in lt-ltb 0 (a - b) (omega arith)
 above-apart a b false e = let h = ltb-false b a e in le-ltb 0 (a - b) (omega arith)
 
-clash : (t : Bool) → (not t && t) ≡ false
-clash true = refl
-clash false = refl
-
 -- ±(A - B) / C, for two numbers of 2 ^ -149
 apart : (A B C x y : ℕ) → 0 < C → A * 2 ^ 149 ≡ x * C → B * 2 ^ 149 ≡ y * C → (s : Bool) → lt 0·0 (round binary32 s (A - B) C) ≡ (not s && ltb B A)
 apart A B C x y c a b s = sign-of s (A - B) C (x - y) c (sub-mul A B (2 ^ 149) ∙ rw (a, b) (sym (sub-mul x y C))) ∙ ap (λ (t : Bool). not s && t) (above-apart A B (ltb B A) refl)
@@ -112,9 +104,9 @@ by-signs A B C x y c a b true true = go (ltb A B) refl
   where
     go : (p : Bool) → ltb A B ≡ p → lt 0·0 (cond p (round binary32 false (B - A) C) (round binary32 (ltb B A) (A - B) C)) ≡ p
     go true e = apart B A C y x c b a false ∙ e
-    go false e = apart A B C x y c a b (ltb B A) ∙ clash (ltb B A)
+    go false e = apart A B C x y c a b (ltb B A) ∙ not-and-self (ltb B A)
 
--- "the difference is above 0" exactly where a is above b
+-- a - b, rounded, is above 0 exactly where a is above b
 pub difference-above : (a b : Float) → T (finite a) → T (finite b) → T (fits binary32 a) → T (fits binary32 b) → lt 0·0 (a ⊖ b) ≡ lt b a
 unfolding lt sub add neg
 difference-above nan b p q f g = absurd p
@@ -142,7 +134,7 @@ finite-within (fin s m e) (inf false) (inf t) p q h k = absurd q
 finite-within (fin s m e) (inf false) (fin t n d) p q h k = no k
 finite-within (fin s m e) (fin t n d) hi p q h k = tt
 
--- with a minus sign, 0 ≤ x is a zero
+-- of 0 ≤ x only a zero has a minus sign
 minus-0 : (s : Bool) (m : ℕ) (e : ℤ) → le 0·0 (fin s m e) ≡ true → s ≡ true → m * up e ≡ 0
 unfolding le lt eq ofBits
 minus-0 false m e h z = no z

@@ -10,7 +10,6 @@ use lib.Dec.{T, leb, lit<}
 use lib.ListN.{getD}
 use lib.IntN.{pos, negsuc}
 use lib.Ieee.{Float, nan, fin, binary32, ofBits, le, lt, eq, neg, add, sub, mul, sum, fits, ofInt, toUnsigned, toSigned, round, size, units, odd}
-use lib.Ieee.Exact.{HasValue}
 use lib.Ieee.Order.{le-of-values}
 use lib.Ieee.Positive.{positive, above, above-of-le, between, le-trans-positive, mul-mono, positive-of-value, sub-anti}
 use lib.Ieee.Scale.{finite}
@@ -171,6 +170,7 @@ pub record Slot (hs amind : Float) (hop : ℕ) (r : EsHop) : Type 0 where
 
 -- the two slots, at the chosen point's height
 pub record Slots (hs gcdkm amind : Float) (r : EsModes) : Type 0 where
+  -- the first hop is 1 at least
   pub from-1 : 1 ≤ ihsrtOf hs gcdkm
   -- slot 4 is for the first hop, slot 5 for the next
   pub in-4 : Slot hs amind (ihsrtOf hs gcdkm) (r .slot4)
