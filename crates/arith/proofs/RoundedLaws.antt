@@ -1,23 +1,23 @@
 -- The sign of a rounded result, and a number cut to a whole one. Assumes nothing.
 use mathlib.Core.Path.{_≡_, refl, sym, ap, _∙_, subst}
 use mathlib.Core.Bool.{Bool, true, false, not, _&&_, cond, not-and-self}
-use Prim.Native.Nat.{ℕ, zero, suc, _+_, _-_, _*_, _/_, _%_, _^_, _≤_, _<_, min}
-use native.Mathlib.Nat.{le-trans, le-of-eq, lt-of-not-le, not-le-of-lt, mul-one, one-mul, zero-mul, add-comm, add-mul, mul-comm, mul-assoc, mul-right-comm, mul-sub, le-div-iff-mul-le, le-mul-of-pos-right, mul-pos, zero-lt-suc}
+use Prim.Native.Nat.{ℕ, zero, suc, _+_, _-_, _*_, _/_, _^_, _≤_, _<_, min}
+use native.Mathlib.Nat.{le-trans, le-of-eq, mul-one, one-mul, zero-mul, add-comm, add-mul, mul-comm, mul-assoc, mul-right-comm, mul-sub, le-div-iff-mul-le, le-mul-of-pos-right, mul-pos, zero-lt-suc}
 use native.Mathlib.Omega.{arith}
-use lib.Dec.{T, leb, ltb, eqb, leb→le, ltb→lt, eqb→eq, lit<}
-use lib.IntN.{ℤ, pos, negsuc}
-use lib.Pow.{pow-lt, pow-add}
+use lib.Dec.{T, leb, ltb, eqb, ltb→lt, eqb→eq, lit<, lit≤}
+use lib.IntN.{ℤ, pos}
 use lib.Ieee.{Float, nan, inf, fin, binary32, unlike, up, down, size, odd, units, round, neg, sum, add, sub, div, below, ofBits, lt, le, eq, fits, toUnsigned, toSigned}
-use lib.Ieee.Fits.{up-pos, down-pos, and-l, and-r, round-is}
+use lib.Ieee.Fits.{up-pos, down-pos, and-l, round-is}
 use lib.Ieee.Bits.{is-true}
 use lib.Ieee.Exact.{HasValue}
 use lib.Ieee.Order.{le-of-values, round-mono}
 use lib.Ieee.Scale.{round-same, finite}
 use lib.Ieee.Positive.{positive, above, above-of-le, first-pos, positive-of-value, le→cross, values-of-le}
 use borrow.Author.Tests.{ltb-true, ltb-false, lt-ltb, le-ltb, le-leb, leb-true, leb-false, ne-eqb}
-use Rattle.arith.specs.Floats.{_⊕_, _⊖_, _⊘_}
+use Rattle.arith.specs.Floats.{_⊕_, _⊖_, _⊘_, scaled}
 use Rattle.arith.specs.Numbers.{0·0, 1·0}
 use Rattle.arith.proofs.Order.{no, flag}
+use Rattle.arith.proofs.ScaledLaws.{scaled-exact}
 
 -- ---- above 0 where the fraction is, if that is 2 ^ -149 at least
 
@@ -69,16 +69,7 @@ sign-of false (suc a) c n C e = above-is (round binary32 false (suc a) c) ∙ is
 
 -- an f32 is a whole number of 2 ^ -149
 whole : (s : Bool) (m : ℕ) (e : ℤ) → T (fits binary32 (fin s m e)) → (n : ℕ) × (m * up e * 2 ^ 149 ≡ n * down e)
-unfolding fits
-whole s m (pos k) f = (m * 2 ^ k * 2 ^ 149, sym (mul-one (m * 2 ^ k * 2 ^ 149)))
-whole s zero (negsuc k) f = (0, simp zero-mul)
-whole s (suc m) (negsuc k) f = (suc m * 2 ^ (149 - suc k), ap (λ (x : ℕ). x * 2 ^ 149) (mul-one (suc m)) ∙ ap (λ (x : ℕ). suc m * x) (ap (λ (x : ℕ). 2 ^ x) (sym back) ∙ pow-add 2 (149 - suc k) (suc k)) ∙ sym (mul-assoc (suc m) (2 ^ (149 - suc k)) (2 ^ suc k)))
-  where
-    deep : 2 ^ suc k ≤ 2 ^ 149
-    deep = let few : Bool = eqb (suc m % 2) 1 && ltb (suc m) (2 ^ 24) in leb→le (2 ^ suc k) (2 ^ 149) (and-r few (leb (2 ^ suc k) (2 ^ 149)) (and-l (few && leb (2 ^ suc k) (2 ^ 149)) (ltb (suc m * 1) (2 ^ 128 * 2 ^ suc k)) f))
-
-    back : 149 - suc k + suc k ≡ 149
-    back = let h : suc k < 150 = lt-of-not-le (λ (g : 150 ≤ suc k). not-le-of-lt (pow-lt g) deep) in omega arith
+whole s m e f = (scaled 149 (fin s m e), scaled-exact s m e 149 (lit≤ tt) f .1)
 
 sub-mul : (p q r : ℕ) → (p - q) * r ≡ p * r - q * r
 sub-mul p q r = rw (mul-comm (p - q) r, mul-comm p r, mul-comm q r) (mul-sub r p q)
