@@ -210,7 +210,7 @@ static inline const char *ray_refusal_text(uint32_t number)
     case RAY_REFUSED_FI: return "a critical frequency of the point is not within its range";
     case RAY_REFUSED_TABLE: return "a value of the tables is not within its range";
     case RAY_REFUSED_IFOB: return "an entry of the oblique table, ifob, is not within 0 to 99999 kHz";
-    case RAY_REFUSED_ES: return "km, an fs or hs of a counted point, gcd, gcdkm or fsdead is not within its range";
+    case RAY_REFUSED_ES: return "km, fs, hs, gcd, gcdkm or fsdead is not within its range";
     default: return "no limit has this number";
     }
 }

@@ -182,6 +182,7 @@ fn the_pages_tables() {
 /// The page's arguments and numbers of `ray_esmod` are the header's.
 #[test]
 fn the_pages_tables_of_sporadic_e() {
+    let header = read("include/ray.h");
     let rows = table("| argument | type | count | unit | range | is |");
     let names: Vec<_> = rows.iter().map(|row| row[0].trim_matches('`').to_string()).collect();
     let expected = ["km", "fs", "hs", "gcd", "gcdkm", "amind", "freq", "fsdead"];
@@ -193,12 +194,18 @@ fn the_pages_tables_of_sporadic_e() {
         // The header's remark on the argument starts with its unit.
         let remark =
             format!(" *   {name:<7} {}", if row[3].is_empty() { "how many" } else { &row[3] });
-        assert!(read("include/ray.h").lines().any(|line| line.starts_with(&remark)), "{remark}");
+        assert!(header.lines().any(|line| line.starts_with(&remark)), "{remark}");
     }
     let rows = table("| number of a slot | unit | is |");
-    let names: Vec<_> = rows.iter().map(|row| row[0].trim_matches('`').to_string()).collect();
     let fields = fields("crates/esmod/src/lib.rt", "pub struct EsHop");
-    assert_eq!(names, fields.into_iter().map(|[name, _]| name).collect::<Vec<_>>());
+    assert_eq!(rows.len(), fields.len());
+    for ([name, _], row) in fields.iter().zip(&rows) {
+        assert_eq!(row[0], format!("`{name}`"));
+        let remark = format!("/* {}", if row[1].is_empty() { "the number" } else { &row[1] });
+        let field = format!("    float {name}; ");
+        let line = header.lines().find(|line| line.starts_with(&field)).expect(&field);
+        assert!(line.contains(&remark), "{line}");
+    }
 }
 
 /// The header's remarks have the types and units of the page: `u`, `i` or `f`, then the unit.

@@ -260,8 +260,8 @@ fn es_words(hop: Option<EsHop>) -> [u32; 4] {
     bits(hop.map_or([-1.0; 4], numbers))
 }
 
-/// The wrapper against the library's own call, on as many points as the job counts: a sixth is
-/// never read, and of more than that many the library need not know.
+/// The wrapper against the library's own call, on as many points as the job counts, up to 7: those
+/// beyond the fifth may be anything.
 #[test]
 fn random_jobs_of_sporadic_e() {
     let mut prng = Prng::new(51);

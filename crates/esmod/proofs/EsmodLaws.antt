@@ -1,26 +1,23 @@
 -- Order 1, what its sentences say of esmod's definition. Assumes nothing.
 use mathlib.Core.Path.{_≡_, refl, sym, ap, _∙_, subst}
-use mathlib.Core.Bool.{Bool, true, false, _&&_, cond, true≢false}
+use mathlib.Core.Bool.{Bool, true, false, cond}
 use mathlib.Core.List.{List, []}
 use mathlib.Core.Logic.{_⊎_, inl, inr, ⊎-elim}
-use Prim.Native.Nat.{ℕ, zero, suc, _+_, _*_, _^_, _≤_, _<_}
-use native.Mathlib.Nat.{eq-or-lt-of-le, le-of-suc-le-suc, lt-of-le-of-lt, mul-le-mul-right}
+use Prim.Native.Nat.{ℕ, zero, suc, _-_, _^_, _≤_, _<_, zero-le, suc-le-suc}
+use native.Mathlib.Nat.{eq-or-lt-of-le, le-of-suc-le-suc, lt-of-le-of-lt, mul-le-mul-right, zero-lt-suc}
 use native.Mathlib.Omega.{arith}
-use borrow.Author.Tests.{leb-true, leb-false, lt-ltb}
 use lib.Dec.{T, leb, lit<}
 use lib.ListN.{getD}
 use lib.IntN.{pos, negsuc}
-use lib.Ieee.{Float, nan, inf, fin, binary32, up, down, ofBits, le, lt, eq, mul, neg, fits, ofInt, toUnsigned, toSigned, round, size, units, odd}
-use lib.Ieee.Bits.{ofBits-fits}
-use lib.Ieee.Exact.{HasValue}
-use lib.Ieee.Fits.{down-pos, neg-fits, mul-fits, sub-fits}
-use lib.Ieee.Positive.{positive, above}
+use lib.Ieee.{Float, nan, fin, binary32, ofBits, le, lt, eq, neg, add, sub, mul, sum, fits, ofInt, toUnsigned, toSigned, round, size, units, odd}
+use lib.Ieee.Order.{le-of-values}
+use lib.Ieee.Positive.{positive, above, above-of-le, between, le-trans-positive, mul-mono, positive-of-value, sub-anti}
 use lib.Ieee.Scale.{finite}
 use Rattle.arith.specs.Floats.{f32, scaled, _⊕_, _⊖_, _⊗_, _⊘_, RZ, R2D, PIO2, VOFL}
 use Rattle.arith.specs.Numbers.{0·0, 1·0, 2·0, 80·0, 100·0, 200·0, 20100·0}
 use Rattle.arith.proofs.Order.{no, flag, le-trans, le-number, not-lt-le, float-trans, float-irrefl, float-not-le}
-use Rattle.arith.proofs.RoundedLaws.{difference-above, above-is, finite-within, quotient-from-0, sum-1, from-1-above, inverse-to-1, product-above, cut-from, cut-is, cut-signed}
-use Rattle.limits.specs.Limits.{within, broken, kmWithin, hsWithin, gcdkmWithin, fsWithin, pointWithin, pointsWithin, esWithin}
+use Rattle.arith.proofs.RoundedLaws.{difference-above, finite-within, quotient-from-0, sum-1, from-1-above, inverse-to-1, cut-from, cut-is, cut-signed}
+use Rattle.limits.specs.Limits.{within, broken, kmWithin, hsWithin, gcdkmWithin, fsWithin, pointsWithin, esWithin}
 use Rattle.limits.proofs.LimitsLaws.{both, km-within, points-within}
 use Rattle.angles.specs.Grid.{inSteps, zero32, one32}
 use Rattle.angles.specs.Grid as grid
@@ -38,35 +35,25 @@ abbrev pub 3·0 : Float
 
 -- ---- the first hop
 
--- the arcsine's last step is below the quarter turn
-steps-below : (y : Float) (s : Bool) (k : ℕ) → k ≤ 6588397 → HasValue y s k (2 ^ 22) → T (finite y) × (lt y PIO2 ≡ true)
-unfolding lt ofBits
-steps-below nan s k l v = absurd v
-steps-below (inf t) s k l v = absurd v
-steps-below (fin true m e) s k l v = (tt, lt-ltb 0 (m * up e * 2 ^ 23 + 13176795 * down e) (omega (arith, down-pos e)))
-steps-below (fin false m e) s k l v =
-    let b : k * down e ≤ 6588397 * down e = mul-le-mul-right (down e) l in
-    let q : m * up e * 4194304 ≡ k * down e = v .1 in
-    (tt, lt-ltb (m * up e * 2 ^ 23) (13176795 * down e) (omega (arith, b, q, down-pos e)))
+-- a quarter turn less k steps: k is at most the arcsine's last step, and that is 2 ^ -23 short of it
+quarter-less : (k : ℕ) → k ≤ 6588397 → let d = PIO2 ⊖ inSteps false k in T (positive d) × T (le (fin false 1 (negsuc 22)) d)
+unfolding inSteps ofInt ofBits mul sub add neg sum round size units odd le lt eq
+quarter-less zero l = (tt, tt)
+quarter-less (suc k) l =
+    let y = inSteps false (suc k) in
+    let step = fin false 1 (negsuc 21) in
+    let top = fin false 6588397 (negsuc 21) in
+    let v = in-steps-value false (suc k) (lt-of-le-of-lt l (lit< tt)) in
+    let p = positive-of-value y (suc k) (2 ^ 22) v (zero-lt-suc k) in
+    let under = le-of-values y top (suc k) (2 ^ 22) 6588397 (2 ^ 22) (lit< tt) (lit< tt) v (refl, refl) (mul-le-mul-right (2 ^ 22) l) in
+    let lo = sub-anti binary32 PIO2 y top tt p tt under tt in
+    let hi = sub-anti binary32 PIO2 step y tt tt p (le-of-values step y 1 (2 ^ 22) (suc k) (2 ^ 22) (lit< tt) (lit< tt) (refl, refl) v (mul-le-mul-right (2 ^ 22) (suc-le-suc zero-le))) (le-trans-positive y top PIO2 p tt tt under tt) in
+    (between (PIO2 ⊖ top) (PIO2 ⊖ y) (PIO2 ⊖ step) tt tt lo hi, lo)
 
-steps-fit : (s : Bool) (k : ℕ) → T (fits binary32 (inSteps s k))
-unfolding inSteps
-steps-fit false k = mul-fits binary32 (ofInt binary32 (pos k)) (fin false 1 (negsuc 21))
-steps-fit true k = neg-fits binary32 (ofInt binary32 (pos k) ⊗ fin false 1 (negsuc 21)) (mul-fits binary32 (ofInt binary32 (pos k)) (fin false 1 (negsuc 21)))
-
-quarter-less : (z : Float) → grid.within one32 z ≡ true → T (above (PIO2 ⊖ asinOf z))
-quarter-less z h =
-    let s = lt z zero32 in
-    let k = asinSteps (scaled 57 z) in
-    let top = asin-steps-below (scaled 57 z) in
-    let y = inSteps s k in
-    let b = steps-below y s k top (in-steps-value s k (lt-of-le-of-lt top (lit< tt))) in
-    subst (λ (a : Float). T (above (PIO2 ⊖ a))) (asin-inside z h)
-    (subst T (above-is (PIO2 ⊖ y)) (rw (difference-above PIO2 y (unfold ofBits in tt) (b .0) (ofBits-fits binary32 0x3fc9_0fdb) (steps-fit s k)) (subst T (sym (b .1)) tt)))
-
-inverse-within : (x : Float) → le 1·0 x ≡ true → grid.within one32 (1·0 ⊘ x) ≡ true
+-- the arcsine from 0 to 1
+steps-of : (z : Float) → le 0·0 z ≡ true → le z 1·0 ≡ true → inSteps false (asinSteps (scaled 57 z)) ≡ asinOf z
 unfolding grid.within ofBits
-inverse-within x h = rw (le-trans (neg one32) 0·0 (1·0 ⊘ x) (unfold le lt eq neg in refl) (quotient-from-0 1·0 x tt (unfold le lt eq in refl) (from-1-above x h)), inverse-to-1 x h)
+steps-of z h l = rw (flag (lt z zero32) (λ q. no (sym (float-not-le z zero32 q) ∙ h))) at (asin-inside z (rw (le-trans (neg one32) 0·0 z (unfold le lt eq neg in refl) h, l)))
 
 -- the farthest hop is above 0
 sdmax-above : (hs : Float) → hsWithin hs ≡ true → T (above (sdmaxOf hs))
@@ -74,8 +61,14 @@ unfolding sdmaxOf within ofBits
 sdmax-above hs w =
     let b = both (le 80·0 hs) (le hs 200·0) w in
     let x = 1·0 ⊕ (hs ⊘ RZ) in
+    let z = 1·0 ⊘ x in
     let h = sum-1 (hs ⊘ RZ) (quotient-from-0 hs RZ (finite-within 80·0 hs 200·0 tt tt (b .0) (b .1)) (le-trans 0·0 80·0 hs (unfold le lt eq in refl) (b .0)) tt) .1 in
-    product-above (2·0 ⊗ RZ) (PIO2 ⊖ asinOf (1·0 ⊘ x)) (unfold mul round size units odd in tt) (unfold le lt eq mul round size units odd in refl) (sub-fits binary32 PIO2 (asinOf (1·0 ⊘ x))) (quarter-less (1·0 ⊘ x) (inverse-within x h))
+    let k = asinSteps (scaled 57 z) in
+    let q = quarter-less k (asin-steps-below (scaled 57 z)) in
+    let c = 2·0 ⊗ RZ in
+    let lo = fin false 1 (negsuc 22) in
+    rw (← steps-of z (quotient-from-0 1·0 x tt (unfold le lt eq in refl) (from-1-above x h)) (inverse-to-1 x h))
+    (above-of-le (c ⊗ lo) (c ⊗ (PIO2 ⊖ inSteps false k)) (unfold mul round size units odd in tt) (mul-mono binary32 c c lo (PIO2 ⊖ inSteps false k) (unfold mul round size units odd in tt) (unfold mul round size units odd in tt) tt (q .0) (unfold le lt eq mul round size units odd in tt) (q .1)))
 
 pub first-hop : (hs gcdkm : Float) → hsWithin hs ≡ true → gcdkmWithin gcdkm ≡ true → le 1·0 ((gcdkm ⊘ sdmaxOf hs) ⊕ 1·0) ≡ true
 unfolding within ofBits
@@ -116,15 +109,6 @@ pub record Smallest (fs : List (List Float)) (km k : ℕ) : Type 0 where
   -- every earlier one's is above it: of equals it is the first
   pub first : (i : ℕ) → i < k → lt (middleOf fs k) (middleOf fs i) ≡ true
 
-record F32 (x : Float) : Type 0 where
-  real : T (finite x)
-  held : T (fits binary32 x)
-  self : le x x ≡ true
-
-f32-of : (x : Float) → T (fits binary32 x) → fsWithin x ≡ true → F32 x
-unfolding within ofBits
-f32-of x f w = let b = both (le 0·0 x) (le x 100·0) w in record { real = finite-within 0·0 x 100·0 tt tt (b .0) (b .1); held = f; self = le-number 0·0 x (b .0) }
-
 -- x < y ≤ z
 below-through : (x y z : Float) → le x x ≡ true → le y y ≡ true → le z z ≡ true → lt x y ≡ true → lt z y ≡ false → lt x z ≡ true
 below-through x y z p q r h k = go (lt x z) refl
@@ -152,25 +136,28 @@ module _ (fs : List (List Float)) where
   alone : (k : ℕ) → k ≤ 0 → Smallest fs 1 k
   alone k h = record { counted = omega arith; smallest = λ i l. subst (λ (j : ℕ). lt (mid j) (mid k) ≡ false) (omega arith) (float-irrefl (mid k)); first = λ i l. absurd (omega arith) }
 
-  from-first : (n : ℕ) → ((i : ℕ) → i < suc n → F32 (mid i)) → Smallest fs (suc n) (pointOf fs (suc n))
-  unfolding pointOf
-  from-first zero f = alone (pointOf fs 1) (point-counted fs 0)
-  from-first (suc n) f =
-      let s = from-first n (λ i l. f i (omega arith)) in
-      let k = pointOf fs (suc n) in
-      let a = f k (omega (arith, s .counted)) in
-      let b = f (suc n) (omega arith) in
-      step (suc n) k (lt 0·0 (mid k ⊖ mid (suc n))) (difference-above (mid k) (mid (suc n)) (a .real) (b .real) (a .held) (b .held)) (λ i l. f i l .self) s
+  module _ (km : ℕ) (w : (i : ℕ) → i < km → fsWithin (mid i) ≡ true) (f : (i : ℕ) → i < km → T (fits binary32 (mid i))) where
+    real : (i : ℕ) → i < km → T (finite (mid i)) × (le (mid i) (mid i) ≡ true)
+    unfolding within ofBits
+    real i l = let b = both (le 0·0 (mid i)) (le (mid i) 100·0) (w i l) in (finite-within 0·0 (mid i) 100·0 tt tt (b .0) (b .1), le-number 0·0 (mid i) (b .0))
+
+    from-first : (n : ℕ) → suc n ≤ km → Smallest fs (suc n) (pointOf fs (suc n))
+    unfolding pointOf
+    from-first zero h = alone (pointOf fs 1) (point-counted fs 0)
+    from-first (suc n) h =
+        let k = pointOf fs (suc n) in
+        let K : k < km = omega (arith, point-counted fs n) in
+        step (suc n) k (lt 0·0 (mid k ⊖ mid (suc n))) (difference-above (mid k) (mid (suc n)) (real k K .0) (real (suc n) h .0) (f k K) (f (suc n) h)) (λ i l. real i (omega arith) .1) (from-first n (omega arith))
+
+    all : 1 ≤ km → Smallest fs km (pointOf fs km)
+    all h = subst (λ (n : ℕ). Smallest fs n (pointOf fs n)) (omega arith) (from-first (km - 1) (omega arith))
 
 pub point-smallest : (km : ℕ) (fs : List (List Float)) (hs : List Float) (gcd gcdkm fsdead : Float) → esWithin km fs hs gcd gcdkm fsdead ≡ true → ((i : ℕ) → i < km → T (fits binary32 (middleOf fs i))) → Smallest fs km (pointOf fs km)
 unfolding esWithin
 point-smallest km fs hs gcd gcdkm fsdead e f =
     let a = both (kmWithin km) _ e in
-    go km (km-within km (a .0) .0) (λ i l. f32-of (middleOf fs i) (f i l) (both (fsWithin (middleOf fs i)) _ (both (fsWithin (getD (getD fs i []) 0 nan)) _ (both (hsWithin (getD hs i nan)) _ (points-within fs hs km i (both (pointsWithin fs hs km) _ (a .1) .0) l) .1) .1) .0))
-  where
-    go : (km : ℕ) → 1 ≤ km → ((i : ℕ) → i < km → F32 (middleOf fs i)) → Smallest fs km (pointOf fs km)
-    go zero h f = absurd (omega (arith, h))
-    go (suc n) h f = from-first fs n f
+    let p = both (pointsWithin fs hs km) _ (a .1) .0 in
+    all fs km (λ i l. both (fsWithin (middleOf fs i)) _ (both (fsWithin (getD (getD fs i []) 0 nan)) _ (both (hsWithin (getD hs i nan)) _ (points-within fs hs km i p l) .1) .1) .0) f (km-within km (a .0) .0)
 
 -- ---- the slots
 
@@ -183,6 +170,7 @@ pub record Slot (hs amind : Float) (hop : ℕ) (r : EsHop) : Type 0 where
 
 -- the two slots, at the chosen point's height
 pub record Slots (hs gcdkm amind : Float) (r : EsModes) : Type 0 where
+  -- the first hop is 1 at least
   pub from-1 : 1 ≤ ihsrtOf hs gcdkm
   -- slot 4 is for the first hop, slot 5 for the next
   pub in-4 : Slot hs amind (ihsrtOf hs gcdkm) (r .slot4)

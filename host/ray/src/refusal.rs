@@ -51,7 +51,7 @@ refusals! {
     FI 8, "a critical frequency of the point is not within its range";
     TABLE 9, "a value of the tables is not within its range";
     IFOB 10, "an entry of the oblique table, ifob, is not within 0 to 99999 kHz";
-    ES 14, "km, an fs or hs of a counted point, gcd, gcdkm or fsdead is not within its range";
+    ES 14, "km, fs, hs, gcd, gcdkm or fsdead is not within its range";
 }
 
 impl Refusal {

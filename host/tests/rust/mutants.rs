@@ -319,23 +319,26 @@ fn leaves_zeros_in_a_refused_answer(job: &EsJob) -> EsModes {
     }
 }
 
-/// Slot 5 is filled where slot 4 is.
-fn fills_slot_5_after_slot_4_alone(job: &EsJob) -> EsModes {
-    let right = esmod::Slots::from(right_esmod(job));
-    match right.hops {
-        [0, _] => esmod::Slots::empty().answer(right_esmod(job).refusal),
-        _ => right_esmod(job),
+/// Leaves slot 5 empty where slot 4 is.
+fn ends_at_an_empty_slot_4(job: &EsJob) -> EsModes {
+    let right = right_esmod(job);
+    match esmod::Slots::from(right).hops {
+        [0, _] => esmod::Slots::empty().answer(right.refusal),
+        _ => right,
     }
 }
 
-const ES_OTHERS: [(&str, fn(&EsJob) -> EsModes); 7] = [
+/// Such a call by its name.
+type EsVersion = (&'static str, fn(&EsJob) -> EsModes);
+
+const ES_OTHERS: [EsVersion; 7] = [
     ("tests limit 14 before amind", tests_sporadic_e_before_amind),
     ("checks uncounted points", checks_uncounted_points),
     ("checks the middle fs alone", checks_the_middle_fs_alone),
     ("takes gcdkm up to 20000", takes_gcdkm_up_to_20000),
     ("cuts km to a word", cuts_km_to_a_word),
     ("leaves zeros in a refused answer", leaves_zeros_in_a_refused_answer),
-    ("fills slot 5 after slot 4 alone", fills_slot_5_after_slot_4_alone),
+    ("ends at an empty slot 4", ends_at_an_empty_slot_4),
 ];
 
 #[test]
