@@ -65,17 +65,17 @@ ihsrtOf hs gcdkm = toUnsigned 31 ((gcdkm ⊘ sdmaxOf hs) ⊕ 1·0)
 unfoldable pub slotOf : Float → Float → Float → ℕ → EsHop
 slotOf hs gcd amind ihop = cond (leb ihop 2) (hopOf hs gcd amind (ofInt binary32 (pos ihop))) emptyHop
 
--- accepted, with these two slots
-abbrev pub modes : EsHop → EsHop → EsModes
-modes slot4 slot5 = record { refusal = 0; slot4 = slot4; slot5 = slot5 }
+-- both slots empty, with the number of a refusal or 0
+abbrev pub noHops : ℕ → EsModes
+noHops n = record { refusal = n; slot4 = emptyHop; slot5 = emptyHop }
 
 -- the first hop in slot 4, the next in slot 5, whatever became of the first (lines 1488 to 1492)
 unfoldable pub hopsOf : Float → Float → Float → Float → EsModes
-hopsOf hs gcd gcdkm amind = let ihsrt = ihsrtOf hs gcdkm in modes (slotOf hs gcd amind ihsrt) (slotOf hs gcd amind (suc ihsrt))
+hopsOf hs gcd gcdkm amind = let ihsrt = ihsrtOf hs gcdkm in record { refusal = 0; slot4 = slotOf hs gcd amind ihsrt; slot5 = slotOf hs gcd amind (suc ihsrt) }
 
 -- by the chosen point's middle fs and hs: both empty where freq ≤ fsdead or fs ≤ 0 (lines 1475 to 1480)
 unfoldable pub modesOf : Float → Float → Float → Float → Float → Float → Float → EsModes
-modesOf fs hs gcd gcdkm amind freq fsdead = cond (le freq fsdead) (modes emptyHop emptyHop) (cond (le fs 0·0) (modes emptyHop emptyHop) (hopsOf hs gcd gcdkm amind))
+modesOf fs hs gcd gcdkm amind freq fsdead = cond (le freq fsdead) (noHops 0) (cond (le fs 0·0) (noHops 0) (hopsOf hs gcd gcdkm amind))
 
 -- ---- the call
 
@@ -86,7 +86,7 @@ limitsOf km fs hs gcd gcdkm amind freq fsdead = (refusalFreq, freqWithin freq) �
 -- a refused answer has the number, and both slots empty
 unfoldable pub answerOf : ℕ → EsModes → EsModes
 answerOf zero m = m
-answerOf (suc n) m = record { refusal = suc n; slot4 = emptyHop; slot5 = emptyHop }
+answerOf (suc n) m = noHops (suc n)
 
 unfoldable pub esmodOf : ℕ → List (List Float) → List Float → Float → Float → Float → Float → Float → EsModes
 esmodOf km fs hs gcd gcdkm amind freq fsdead =

@@ -3,9 +3,9 @@
 ghost use mathlib.Core.Path.{_≡_};
 ghost use mathlib.Core.Bool.{true};
 ghost use Prim.Native.Nat.{min};
+ghost use Rattle.angles.specs.SinCos.{sinOf};
 ghost use Rattle.limits.specs.Limits.{broken, hsWithin, gcdkmWithin};
-ghost use Rattle.esmod.specs.Esmod.{pointOf, emptyHop, hopOf, sdmaxOf, hopsOf, modesOf, limitsOf, esmodOf};
-ghost use Rattle.esmod.specs.Esmod as meant;
+ghost use Rattle.esmod.specs.Esmod.{pointOf, emptyHop, delOf, hopOf, noHops, sdmaxOf, hopsOf, modesOf, limitsOf, esmodOf};
 use arith::PIO2;
 use arith::R2D;
 use arith::RZ;
@@ -56,14 +56,22 @@ fn empty() -> EsHop
     }
 }
 
+// The take-off angle in radians.
+fn del(hs: f32, thet: f32, sine: f32) -> f32
+    requires { ⌜ sine ≡ sinOf thet ⌝ }
+    ensures { λ r. ⌜ r ≡ delOf hs thet ⌝ }
+{
+    let psi = angles::atan(sine / (1.0 - angles::cos(thet) + hs / RZ));
+    PIO2 - thet - psi
+}
+
 // `gp` is the number of hops. One sine serves the angle and the path.
 fn hop(hs: f32, gcd: f32, amind: f32, gp: f32) -> EsHop
     ensures { λ r. ⌜ r ≡ hopOf hs gcd amind gp ⌝ }
 {
     let thet = 0.5 * (gcd / gp);
     let sine = angles::sin(thet);
-    let psi = angles::atan(sine / (1.0 - angles::cos(thet) + hs / RZ));
-    let del = PIO2 - thet - psi;
+    let del = del(hs, thet, sine);
     let b = del * R2D;
     if b < amind {
         return empty();
@@ -74,6 +82,17 @@ fn hop(hs: f32, gcd: f32, amind: f32, gp: f32) -> EsHop
         hn: gp,
         hp: hs,
         timed: path / VOFL,
+    }
+}
+
+// Both slots empty, with the number of a refusal or 0.
+fn no_hops(refusal: u32) -> EsModes
+    ensures { λ r. ⌜ r ≡ noHops refusal ⌝ }
+{
+    EsModes {
+        refusal,
+        slot4: empty(),
+        slot5: empty(),
     }
 }
 
@@ -90,34 +109,33 @@ fn hops(hs: f32, gcd: f32, gcdkm: f32, amind: f32) -> EsModes
 {
     let first = gcdkm / sdmax(hs) + 1.0;
     if first >= 3.0 {
-        modes(empty(), empty())
-    } else if first >= 2.0 {
-        modes(hop(hs, gcd, amind, 2.0), empty())
-    } else {
-        modes(hop(hs, gcd, amind, 1.0), hop(hs, gcd, amind, 2.0))
+        return no_hops(0);
     }
-}
-
-fn modes(slot4: EsHop, slot5: EsHop) -> EsModes
-    ensures { λ r. ⌜ r ≡ meant.modes slot4 slot5 ⌝ }
-{
+    let two = hop(hs, gcd, amind, 2.0);
+    if first >= 2.0 {
+        return EsModes {
+            refusal: 0,
+            slot4: two,
+            slot5: empty(),
+        };
+    }
     EsModes {
         refusal: 0,
-        slot4,
-        slot5,
+        slot4: hop(hs, gcd, amind, 1.0),
+        slot5: two,
     }
 }
 
 // By the chosen point's middle fs and hs.
-fn modes_at(fs: f32, hs: f32, gcd: f32, gcdkm: f32, amind: f32, freq: f32, fsdead: f32) -> EsModes
+fn modes(fs: f32, hs: f32, gcd: f32, gcdkm: f32, amind: f32, freq: f32, fsdead: f32) -> EsModes
     requires { ⌜ (hsWithin hs ≡ true) × (gcdkmWithin gcdkm ≡ true) ⌝ }
     ensures { λ r. ⌜ r ≡ modesOf fs hs gcd gcdkm amind freq fsdead ⌝ }
 {
     if freq <= fsdead {
-        return modes(empty(), empty());
+        return no_hops(0);
     }
     if fs <= 0.0 {
-        return modes(empty(), empty());
+        return no_hops(0);
     }
     hops(hs, gcd, gcdkm, amind)
 }
@@ -135,14 +153,18 @@ fn broken_limit(
 ) -> u32
     ensures { λ r. ⌜ r ≡ broken (limitsOf km (now (fs .entry)) (now (hs .entry)) gcd gcdkm amind freq fsdead) ⌝ }
 {
-    if !limits::freq_within(freq) {
-        limits::REFUSAL_FREQ
-    } else if !limits::amind_within(amind) {
-        limits::REFUSAL_AMIND
-    } else if !limits::es_within(km, fs, hs, gcd, gcdkm, fsdead) {
-        limits::REFUSAL_ES
+    if limits::freq_within(freq) {
+        if limits::amind_within(amind) {
+            if limits::es_within(km, fs, hs, gcd, gcdkm, fsdead) {
+                0
+            } else {
+                limits::REFUSAL_ES
+            }
+        } else {
+            limits::REFUSAL_AMIND
+        }
     } else {
-        0
+        limits::REFUSAL_FREQ
     }
 }
 
@@ -161,12 +183,8 @@ pub fn esmod(
 {
     let numbers = limits::checked_by(broken_limit(km, &fs, &hs, gcd, gcdkm, amind, freq, fsdead));
     let Checked::Within = numbers else {
-        return EsModes {
-            refusal: limits::number(numbers),
-            slot4: empty(),
-            slot5: empty(),
-        };
+        return no_hops(limits::number(numbers));
     };
     let k = point(km, &fs);
-    modes_at(fs[k][1], hs[k], gcd, gcdkm, amind, freq, fsdead)
+    modes(fs[k][1], hs[k], gcd, gcdkm, amind, freq, fsdead)
 }

@@ -1,12 +1,16 @@
 -- What a passed test tells, for callers that go on inside the range. Assumes nothing.
-use Prim.Native.Nat.{ℕ, zero, suc, _≤_}
+use mathlib.Core.Logic.{⊎-elim}
+use Prim.Native.Nat.{ℕ, zero, suc, _≤_, _<_}
+use native.Mathlib.Nat.{eq-or-lt-of-le}
 use mathlib.Core.Path.{_≡_, refl}
 use mathlib.Core.Bool.{Bool, true, false, cond, _&&_, and-eq-true-iff}
 use mathlib.Core.List.{List, [], _∷_, _++_}
 use native.Mathlib.Omega.{arith}
 use borrow.Author.Tests.{leb-true}
 use lib.Dec.{leb}
-use Rattle.limits.specs.Limits.{broken, slotsWithin, layerWithin}
+use lib.ListN.{getD}
+use lib.Ieee.{Float, nan}
+use Rattle.limits.specs.Limits.{broken, slotsWithin, layerWithin, kmWithin, pointWithin, pointsWithin}
 
 -- both tests of a range passed
 pub both : (s t : Bool) → (s && t) ≡ true → (s ≡ true) × (t ≡ true)
@@ -20,6 +24,20 @@ slots-within ist lst = orders 1 ist lst 7
 
 pub layer-within : (layer : ℕ) → layerWithin layer ≡ true → (1 ≤ layer) × (layer ≤ 4)
 layer-within layer = orders 1 layer layer 4
+
+pub km-within : (km : ℕ) → kmWithin km ≡ true → (1 ≤ km) × (km ≤ 5)
+km-within km = orders 1 km km 5
+
+below : (n i : ℕ) → i < suc n → i ≤ n
+below n i h = omega arith
+
+-- each of the first n points is within
+pub points-within : (fs : List (List Float)) (hs : List Float) (n i : ℕ) → pointsWithin fs hs n ≡ true → i < n → pointWithin (getD fs i []) (getD hs i nan) ≡ true
+unfolding pointsWithin
+points-within fs hs zero i e h = absurd (omega (arith, h))
+points-within fs hs (suc n) i e h =
+    let t = both (pointsWithin fs hs n) (pointWithin (getD fs n []) (getD hs n nan)) e in
+    ⊎-elim (λ q. rw q (t .1)) (λ l. points-within fs hs n i (t .0) l) (eq-or-lt-of-le (below n i h))
 
 -- ---- the first limit broken
 
