@@ -1,3 +1,4 @@
 pub mod Order
+pub mod RoundedLaws
 pub mod RunLaws
 mod Magnitude

@@ -85,7 +85,7 @@ float-irrefl (inf false) = refl
 float-irrefl (fin false m e) = le-ltb (m * up e * down e) (m * up e * down e) (omega arith)
 float-irrefl (fin true m e) = le-ltb (m * up e * down e) (m * up e * down e) (omega arith)
 
-flag : (t : Bool) → (t ≡ true → ⊥) → t ≡ false
+pub flag : (t : Bool) → (t ≡ true → ⊥) → t ≡ false
 flag true h = absurd (h refl)
 flag false h = refl
 
