@@ -1,8 +1,10 @@
 // Words and verbs.
 ghost use mathlib.Core.Path.{_≡_};
+ghost use mathlib.Core.Bool.{cond};
 ghost use Prim.Native.Nat.{_+_, _^_, _<_, _≤_};
-ghost use lib.ListN.{length};
-ghost use Rattle.command.specs.Line.{same, helpOf, verbOf};
+ghost use lib.Dec.{eqb};
+ghost use lib.ListN.{length, drop};
+ghost use Rattle.command.specs.Line.{same, helpOf, verbOf, upTo, after, wordOf, countOf};
 
 // What the tool is asked to do.
 pub enum Verb {
@@ -64,7 +66,7 @@ fn help(word: &[u8]) -> Verb
 // Where the first byte 0 from `from` on stands, or the line's end.
 fn zero(line: &[u8], from: usize) -> usize
     requires { ⌜ from ≤ length (now line) ⌝ }
-    ensures { λ r. ⌜ from ≤ r ⌝ }
+    ensures { λ r. ⌜ r ≡ from + length (upTo (drop from (now (line .entry)))) ⌝ }
     ensures { λ r. ⌜ r ≤ length (now (line .entry)) ⌝ }
 {
     let mut i = from;
@@ -79,6 +81,7 @@ fn zero(line: &[u8], from: usize) -> usize
 
 // Where word i starts, or the line's end.
 fn start(line: &[u8], i: usize) -> usize
+    ensures { λ r. ⌜ upTo (drop r (now (line .entry))) ≡ wordOf (now (line .entry)) i ⌝ }
     ensures { λ r. ⌜ r ≤ length (now (line .entry)) ⌝ }
 {
     let mut at = 0usize;
@@ -93,7 +96,7 @@ fn start(line: &[u8], i: usize) -> usize
 // Past the word at `at` and its byte 0.
 fn past(line: &[u8], at: usize) -> usize
     requires { ⌜ at ≤ length (now line) ⌝ }
-    ensures { λ r. ⌜ at ≤ r ⌝ }
+    ensures { λ r. ⌜ drop r (now (line .entry)) ≡ after (drop at (now (line .entry))) ⌝ }
     ensures { λ r. ⌜ r ≤ length (now (line .entry)) ⌝ }
 {
     let end = zero(line, at);
@@ -103,18 +106,18 @@ fn past(line: &[u8], at: usize) -> usize
     end
 }
 
-// Word i, counted from 0; nothing where there are not so many.
+// Word i, counted from 0; nothing where there are not so many. What has no byte 0 behind it goes to the line's end.
 pub fn word(line: &[u8], i: usize) -> &[u8]
-    ensures { λ r. ⌜ length (now r) ≤ length (now (line .entry)) ⌝ }
+    ensures { λ r. ⌜ now r ≡ wordOf (now (line .entry)) i ⌝ }
 {
     let from = start(line, i);
     let end = zero(line, from);
     &line[from..end]
 }
 
-// How many words there are.
+// How many words there are, by the bytes 0 behind them.
 pub fn count(line: &[u8]) -> usize
-    ensures { λ r. ⌜ r ≤ length (now (line .entry)) ⌝ }
+    ensures { λ r. ⌜ r ≡ countOf (now (line .entry)) ⌝ }
 {
     let mut n = 0usize;
     let mut i = 0usize;
@@ -127,6 +130,7 @@ pub fn count(line: &[u8]) -> usize
 
 fn counted(n: usize, b: u8) -> usize
     requires { ⌜ n + 1 < 2 ^ 64 ⌝ }
+    ensures { λ r. ⌜ r ≡ cond (eqb b 0) (n + 1) n ⌝ }
     ensures { λ r. ⌜ r ≤ n + 1 ⌝ }
 {
     if b == 0 {

@@ -1,6 +1,9 @@
 // Names as the sheet and the drawing show them: a job's and a layer's.
+ghost use mathlib.Core.Path.{_≡_};
 ghost use Prim.Native.Nat.{_≤_};
-ghost use lib.ListN.{length};
+ghost use lib.ListN.{length, drop};
+ghost use Rattle.decimal.specs.Wrote.{Wrote};
+ghost use Rattle.names.specs.Names.{plainOf, plainsOf, lastOf, cutOf, shownOf, widthOf, layerOf};
 use decimal::put;
 use decimal::text;
 
@@ -10,7 +13,9 @@ const MOST: usize = 48;
 const LEFT: usize = 45;
 
 // A byte outside 32 to 126 is `?`.
-fn plain(b: u8) -> u8 {
+fn plain(b: u8) -> u8
+    ensures { λ r. ⌜ r ≡ plainOf b ⌝ }
+{
     if b < 32 {
         return b'?';
     }
@@ -22,6 +27,7 @@ fn plain(b: u8) -> u8 {
 
 // A text with each byte outside 32 to 126 as `?`.
 pub fn plains(s: &[u8], out: &mut [u8], at: usize) -> usize
+    ensures { λ r. ⌜ Wrote (now (out .entry)) at (plainsOf (now (s .entry))) (now (out .exit)) r ⌝ }
     ensures { λ r. ⌜ r ≤ length (now (out .entry)) ⌝ }
 {
     let mut to = decimal::inside(at, out);
@@ -35,6 +41,7 @@ pub fn plains(s: &[u8], out: &mut [u8], at: usize) -> usize
 
 // Where the last part begins, after the last `/`.
 fn last(name: &[u8]) -> usize
+    ensures { λ r. ⌜ drop r (now (name .entry)) ≡ lastOf (now (name .entry)) ⌝ }
     ensures { λ r. ⌜ r ≤ length (now (name .entry)) ⌝ }
 {
     let mut i = name.len();
@@ -48,6 +55,7 @@ fn last(name: &[u8]) -> usize
 }
 
 fn cut(part: &[u8], out: &mut [u8], at: usize) -> usize
+    ensures { λ r. ⌜ Wrote (now (out .entry)) at (cutOf (now (part .entry))) (now (out .exit)) r ⌝ }
     ensures { λ r. ⌜ r ≤ length (now (out .entry)) ⌝ }
 {
     if part.len() > MOST {
@@ -60,7 +68,7 @@ fn cut(part: &[u8], out: &mut [u8], at: usize) -> usize
 
 // How many characters are shown of a name.
 pub fn width(name: &[u8]) -> usize
-    ensures { λ r. ⌜ r ≤ 48 ⌝ }
+    ensures { λ r. ⌜ r ≡ widthOf (now (name .entry)) ⌝ }
 {
     let from = last(name);
     let n = name.len() - from;
@@ -72,6 +80,7 @@ pub fn width(name: &[u8]) -> usize
 
 // The name's last part, cut from the left to `...` and 45 characters where it has more than 48.
 pub fn shown(name: &[u8], out: &mut [u8], at: usize) -> usize
+    ensures { λ r. ⌜ Wrote (now (out .entry)) at (shownOf (now (name .entry))) (now (out .exit)) r ⌝ }
     ensures { λ r. ⌜ r ≤ length (now (out .entry)) ⌝ }
 {
     let from = last(name);
@@ -80,6 +89,7 @@ pub fn shown(name: &[u8], out: &mut [u8], at: usize) -> usize
 
 // A layer's name, 1 E, 2 F1, else F2.
 pub fn layer(n: u32, out: &mut [u8], at: usize) -> usize
+    ensures { λ r. ⌜ Wrote (now (out .entry)) at (layerOf n) (now (out .exit)) r ⌝ }
     ensures { λ r. ⌜ r ≤ length (now (out .entry)) ⌝ }
 {
     if n == 1 {

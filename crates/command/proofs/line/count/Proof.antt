@@ -1,11 +1,14 @@
-use Prim.Native.Nat.{_≤_, _-_}
-use lib.ListN.{length}
+use mathlib.Core.Path.{_≡_}
+use Prim.Native.Nat.{_+_, _≤_, _-_}
+use lib.ListN.{length, drop}
 use borrow.Author.Needs.{needs}
+use Rattle.command.specs.Line.{countOf}
+use Rattle.command.proofs.LineLaws.{count-more, count-end}
 use Rattle.command.proofs.line.count.Statement.{statement}
 use Rattle.command.proofs.line.count.Tie as tie
 
 abbrev Inv-loop : tie.InvT-loop
-Inv-loop line n₀ i₀ n i = (i ≤ length line) × (n ≤ i)
+Inv-loop line n₀ i₀ n i = (i ≤ length line) × (n ≤ i) × (countOf line ≡ n + countOf (drop i line))
 
 abbrev μ-loop : tie.MeasureT-loop
 μ-loop line n₀ i₀ n i = length line - i
@@ -26,10 +29,12 @@ loop-less : tie.Need-loop-less Inv-loop μ-loop
 loop-less c = search needs
 
 loop-again : tie.Need-loop-again Inv-loop μ-loop
-loop-again c = search needs
+loop-again c =
+    let more = count-more (c .before .before .before .before .before .args .line .now) (c .before .before .before .loop .i) (c .before .before .before .loop .n) (c .before .before .loop-test .taken) (c .counted .ensures .0) (c .before .before .before .loop .inv .2) in
+    search needs
 
 returns : tie.Need-returns Inv-loop μ-loop
-returns c = search needs
+returns c = count-end (c .before .before .before .args .line .now) (c .before .loop .i) (c .before .loop .n) (c .loop-test .left) (c .before .loop .inv .2)
 
 pub count-spec : {M : Type 1} → statement M
 count-spec =

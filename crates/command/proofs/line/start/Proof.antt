@@ -1,11 +1,14 @@
+use mathlib.Core.Path.{_≡_, refl, sym}
 use Prim.Native.Nat.{_≤_, _-_}
-use lib.ListN.{length}
+use lib.ListN.{length, drop}
 use borrow.Author.Needs.{needs}
+use Rattle.command.specs.Line.{wordOf}
+use Rattle.command.proofs.LineLaws.{word-more, word-none}
 use Rattle.command.proofs.line.start.Statement.{statement}
 use Rattle.command.proofs.line.start.Tie as tie
 
 abbrev Inv-loop : tie.InvT-loop
-Inv-loop line i at₀ left₀ at left = at ≤ length line
+Inv-loop line i at₀ left₀ at left = (at ≤ length line) × (wordOf line i ≡ wordOf (drop at line) left)
 
 abbrev μ-loop : tie.MeasureT-loop
 μ-loop line i at₀ left₀ at left = left
@@ -23,10 +26,14 @@ loop-less : tie.Need-loop-less Inv-loop μ-loop
 loop-less c = search needs
 
 loop-again : tie.Need-loop-again Inv-loop μ-loop
-loop-again c = search needs
+loop-again c =
+    let more = word-more (c .before .before .before .before .args .line .now) _ _ (c .before .before .before .before .args .i) _ (c .before .before .loop .inv .1) (c .before .loop-test .taken) (c .past .ensures .0) in
+    search needs
 
 returns : tie.Need-returns Inv-loop μ-loop
-returns c = search needs
+returns c =
+    let word = word-none (c .before .before .before .args .line .now) _ (c .before .before .before .args .i) _ (c .before .loop .inv .1) (c .loop-test .left) in
+    search needs
 
 pub start-spec : {M : Type 1} → statement M
 start-spec =
