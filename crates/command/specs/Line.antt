@@ -7,7 +7,7 @@ use mathlib.Core.List.{List, [], _∷_}
 use lib.Dec.{eqb}
 use Rattle.words.specs.Lists.{tab}
 use Rattle.command.specs.declared.line.Verb.{Verb}
-use Rattle.command.specs.declared.line.Verb.the-variants.{Show, Draw, Job, Check, Words, Ask, Help, Unknown}
+use Rattle.command.specs.declared.line.Verb.the-variants.{Show, Draw, Job, Check, Words, Ask, Es, Help, Unknown}
 
 -- what stands before the first byte 0, or all of it
 unfoldable pub upTo : List ℕ → List ℕ
@@ -50,4 +50,5 @@ verbOf w =
     (cond (same w (bytes "check")) Check
     (cond (same w (bytes "words")) Words
     (cond (same w (bytes "ask")) Ask
-    (helpOf w))))))
+    (cond (same w (bytes "es")) Es
+    (helpOf w)))))))

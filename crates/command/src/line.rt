@@ -14,6 +14,7 @@ pub enum Verb {
     Check,
     Words,
     Ask,
+    Es,
     Help,
     Unknown,
 }
@@ -44,6 +45,9 @@ pub fn verb_of(word: &[u8]) -> Verb
     }
     if is(word, b"ask") {
         return Verb::Ask;
+    }
+    if is(word, b"es") {
+        return Verb::Es;
     }
     help(word)
 }

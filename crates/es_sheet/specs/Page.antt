@@ -29,7 +29,7 @@ headValues file =
 abbrev pub headText : List ℕ → List ℕ
 headText file =
     filledText (headValues file)
-    (bytes ": slots 4 and 5\n------------------------------------------------------------------------------\n  Point @Aw1 of the @Bw1 counted from 0 governs: the smallest middle fs.\n\n  Frequency     @E39 MHz          Middle fs     @C39 MHz\n  Path          @G19 km           Height        @D19 km\n  Minimum angle @F39 deg          fsdead        @H39 MHz\n\nRAYS by sporadic E\nslot  hops    take-off      height       delay\n                 angle\n                   deg          km          ms\n")
+    (bytes ": slots 4 and 5\n------------------------------------------------------------------------------\n  Point @Aw1 of the @Bw1 counted from 0 governs: the smallest middle fs.\n\n  Frequency     @E39 MHz          Middle fs     @C39 MHz\n  Path          @G19 km           Height, hs    @D19 km\n  Minimum angle @F39 deg          Cutoff, fsdead@H39 MHz\n\nRAYS by sporadic E\nslot  hops    take-off      height       delay\n                 angle\n                   deg          km          ms\n")
 
 -- an empty slot has -1 hops
 abbrev pub isEmpty : EsHop → Bool
@@ -48,7 +48,7 @@ slotText s h =
 abbrev pub whyText : List ℕ → List ℕ
 whyText file =
     cond (le (f32 (word file (ofFile "freq"))) (f32 (word file (ofFile "fsdead"))))
-    (bytes "No ray: the frequency is not above fsdead.\n")
+    (bytes "No ray: the frequency is not above the cutoff, fsdead.\n")
     (cond (le (f32 (governingFs file)) 0·0)
     (bytes "No ray: the middle fs is not above 0.\n")
     (bytes "No ray: by one or two hops the path is too long, or the angle too low.\n"))

@@ -40,7 +40,7 @@ fn head(file: &[u8], out: &mut [u8], at: usize) -> usize
 {
     let v = head_values(file);
     filled(
-        b": slots 4 and 5\n------------------------------------------------------------------------------\n  Point @Aw1 of the @Bw1 counted from 0 governs: the smallest middle fs.\n\n  Frequency     @E39 MHz          Middle fs     @C39 MHz\n  Path          @G19 km           Height        @D19 km\n  Minimum angle @F39 deg          fsdead        @H39 MHz\n\nRAYS by sporadic E\nslot  hops    take-off      height       delay\n                 angle\n                   deg          km          ms\n",
+        b": slots 4 and 5\n------------------------------------------------------------------------------\n  Point @Aw1 of the @Bw1 counted from 0 governs: the smallest middle fs.\n\n  Frequency     @E39 MHz          Middle fs     @C39 MHz\n  Path          @G19 km           Height, hs    @D19 km\n  Minimum angle @F39 deg          Cutoff, fsdead@H39 MHz\n\nRAYS by sporadic E\nslot  hops    take-off      height       delay\n                 angle\n                   deg          km          ms\n",
         &v,
         out,
         at,
@@ -74,7 +74,11 @@ fn why(file: &[u8], out: &mut [u8], at: usize) -> usize
     ensures { λ r. ⌜ Wrote (now (out .entry)) at (whyText (now (file .entry))) (now (out .exit)) r ⌝ }
 {
     if view::at_least(word(file, es_file::FSDEAD), word(file, es_file::FREQ)) {
-        return text(out, at, b"No ray: the frequency is not above fsdead.\n");
+        return text(
+            out,
+            at,
+            b"No ray: the frequency is not above the cutoff, fsdead.\n",
+        );
     }
     if view::at_least(0, middle(file)) {
         return text(out, at, b"No ray: the middle fs is not above 0.\n");

@@ -28,6 +28,7 @@ pub fn page(verb: Verb, name: &[u8], job: &[u8], answer: &[u8], out: &mut [u8]) 
         Verb::Words => listing::listing(answer, out),
         Verb::Check => accepted(name, out),
         Verb::Ask => 0,
+        Verb::Es => 0,
         Verb::Help => 0,
         Verb::Unknown => 0,
     }

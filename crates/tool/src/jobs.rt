@@ -92,6 +92,7 @@ fn is_check(verb: Verb) -> bool {
         Verb::Job => false,
         Verb::Words => false,
         Verb::Ask => false,
+        Verb::Es => false,
         Verb::Help => false,
         Verb::Unknown => false,
     }

@@ -1,5 +1,6 @@
 // The tool `ray`: reads a job, has the library answer it, and prints or writes what a command asks for. What is answered is the exit status.
 mod ask;
+mod es;
 mod help;
 mod jobs;
 
@@ -47,6 +48,7 @@ pub fn serve(line: &[u8], out: i32, err: i32) -> u32
             b"'; 'ray help' lists them\n",
         ),
         Verb::Ask => ask::ask(line, n, out, err),
+        Verb::Es => es::es(line, n, out, err),
         Verb::Draw => jobs::one_or_two(
             line,
             n,

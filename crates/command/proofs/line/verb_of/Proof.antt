@@ -63,12 +63,22 @@ returns-6 : tie.Need-returns-6
 unfolding tab
 returns-6 c = simp (← c .before .before .before .before .before .before .before .before .before .before .before .before .before .before .before .before .is .ensures, c .before .before .before .before .before .before .before .before .before .before .before .before .before .before .before .if1 .left, ← c .before .before .before .before .before .before .before .before .before .before .before .before .before .is2 .ensures, c .before .before .before .before .before .before .before .before .before .before .before .before .if2 .left, ← c .before .before .before .before .before .before .before .before .before .before .is3 .ensures, c .before .before .before .before .before .before .before .before .before .if3 .left, ← c .before .before .before .before .before .before .before .is4 .ensures, c .before .before .before .before .before .before .if4 .left, ← c .before .before .before .before .is5 .ensures, c .before .before .before .if5 .left, ← c .before .is6 .ensures, c .if6 .taken)
 
-help-requires : tie.Need-help-requires
-help-requires c κs = search needs
+slice-aggregate-is-7 : tie.Need-slice-aggregate-is-7
+slice-aggregate-is-7 c = search needs
+
+is-requires-7 : tie.Need-is-requires-7
+is-requires-7 c κs = search needs
 
 returns-7 : tie.Need-returns-7
 unfolding tab
-returns-7 c = simp (← c .before .before .before .before .before .before .before .before .before .before .before .before .before .before .before .before .before .is .ensures, c .before .before .before .before .before .before .before .before .before .before .before .before .before .before .before .before .if1 .left, ← c .before .before .before .before .before .before .before .before .before .before .before .before .before .before .is2 .ensures, c .before .before .before .before .before .before .before .before .before .before .before .before .before .if2 .left, ← c .before .before .before .before .before .before .before .before .before .before .before .is3 .ensures, c .before .before .before .before .before .before .before .before .before .before .if3 .left, ← c .before .before .before .before .before .before .before .before .is4 .ensures, c .before .before .before .before .before .before .before .if4 .left, ← c .before .before .before .before .before .is5 .ensures, c .before .before .before .before .if5 .left, ← c .before .before .is6 .ensures, c .before .if6 .left, ← c .help .ensures)
+returns-7 c = simp (← c .before .before .before .before .before .before .before .before .before .before .before .before .before .before .before .before .before .before .before .is .ensures, c .before .before .before .before .before .before .before .before .before .before .before .before .before .before .before .before .before .before .if1 .left, ← c .before .before .before .before .before .before .before .before .before .before .before .before .before .before .before .before .is2 .ensures, c .before .before .before .before .before .before .before .before .before .before .before .before .before .before .before .if2 .left, ← c .before .before .before .before .before .before .before .before .before .before .before .before .before .is3 .ensures, c .before .before .before .before .before .before .before .before .before .before .before .before .if3 .left, ← c .before .before .before .before .before .before .before .before .before .before .is4 .ensures, c .before .before .before .before .before .before .before .before .before .if4 .left, ← c .before .before .before .before .before .before .before .is5 .ensures, c .before .before .before .before .before .before .if5 .left, ← c .before .before .before .before .is6 .ensures, c .before .before .before .if6 .left, ← c .before .is7 .ensures, c .if7 .taken)
+
+help-requires : tie.Need-help-requires
+help-requires c κs = search needs
+
+returns-8 : tie.Need-returns-8
+unfolding tab
+returns-8 c = simp (← c .before .before .before .before .before .before .before .before .before .before .before .before .before .before .before .before .before .before .before .before .is .ensures, c .before .before .before .before .before .before .before .before .before .before .before .before .before .before .before .before .before .before .before .if1 .left, ← c .before .before .before .before .before .before .before .before .before .before .before .before .before .before .before .before .before .is2 .ensures, c .before .before .before .before .before .before .before .before .before .before .before .before .before .before .before .before .if2 .left, ← c .before .before .before .before .before .before .before .before .before .before .before .before .before .before .is3 .ensures, c .before .before .before .before .before .before .before .before .before .before .before .before .before .if3 .left, ← c .before .before .before .before .before .before .before .before .before .before .before .is4 .ensures, c .before .before .before .before .before .before .before .before .before .before .if4 .left, ← c .before .before .before .before .before .before .before .before .is5 .ensures, c .before .before .before .before .before .before .before .if5 .left, ← c .before .before .before .before .before .is6 .ensures, c .before .before .before .before .if6 .left, ← c .before .before .is7 .ensures, c .before .if7 .left, ← c .help .ensures)
 
 pub verb-of-spec : {M : Type 1} → statement M
 verb-of-spec =
@@ -92,5 +102,8 @@ verb-of-spec =
     slice-aggregate-is-6
     is-requires-6
     returns-6
+    slice-aggregate-is-7
+    is-requires-7
+    returns-7
     help-requires
-    returns-7)
+    returns-8)
