@@ -87,7 +87,7 @@ fn module((variant, text): (&slices::Variant, String)) -> String {
         "pub mod {name} {{\n\
          use super::counts::*;\n\
          use super::*;\n\
-         pub const VARIANT: Variant = Variant {{ name: \"{name}\", findf, fdist }};\n\
+         pub const VARIANT: Variant = Variant {{ name: \"{name}\", findf, fdist, esmod }};\n\
          {text}}}\n"
     )
 }

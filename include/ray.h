@@ -7,6 +7,7 @@
  * What the caller must guarantee, for every call:
  *  - Buffers. job and answer are memory of the given lengths, do not overlap, and nobody else writes
  *    them during the call. Any alignment will do. No pointer is NULL, not even with a length of 0.
+ *    fs and hs of ray_esmod are 15 and 5 floats, also where fewer points count.
  *  - Floating-point mode. The usual one: rounding to nearest, subnormals neither flushed nor taken as
  *    zero, every exception masked. ray_default_fp_mode() tests it. In another mode the answer may be
  *    another one, and an unmasked exception would be raised.
@@ -36,8 +37,41 @@ extern "C" {
  */
 uint32_t ray_job(const uint8_t *job, size_t job_bytes, uint8_t *answer, size_t answer_bytes);
 
+/* A ray by sporadic E, a slot of ray_esmod's answer. All four are -1 where the slot is empty. */
+struct ray_es_hop {
+    float b;     /* deg, the take-off angle: at or above amind */
+    float hn;    /* the number of hops: 1 or 2 */
+    float hp;    /* km, the height of the layer: hs of the point that governs */
+    float timed; /* ms, the delay over the whole path */
+};
+
+struct ray_es_modes {
+    uint32_t refusal; /* 0, or the number of the first limit broken: both slots are then empty */
+    struct ray_es_hop slot4;
+    struct ray_es_hop slot5;
+};
+
 /*
- * The angle functions that the job uses, in radians: sine and cosine of -4 to 4, arcsine and
+ * The rays by sporadic E of a path: slot 4 has the least number of hops by which the layer can reach so
+ * far, slot 5 one more, and neither more than two. Geometry alone: no losses.
+ *   km      how many points of the path count, from the first on
+ *   fs      MHz, the critical frequency of sporadic E: lower decile, median and upper decile of point 0,
+ *           then of points 1 to 4, 15 numbers (of a float fs[5][3], hand over fs[0])
+ *   hs      km, the height of the layer at each of the 5 points
+ *   gcd     radians, the path as an angle at the earth's centre
+ *   gcdkm   km, the path's length; it is not compared with gcd
+ *   amind   deg, the minimum take-off angle
+ *   freq    MHz, the frequency
+ *   fsdead  MHz, at or below it there is no ray
+ * The point that governs is the first of those counted whose median is the smallest; where that is 0
+ * there is no ray. A hop below amind uses up its slot and leaves it empty: slot 5 may hold a ray where
+ * slot 4 holds none. Refused by RAY_REFUSED_FREQ, else RAY_REFUSED_AMIND, else RAY_REFUSED_ES. Points
+ * that do not count may hold anything. Ends on every input.
+ */
+struct ray_es_modes ray_esmod(size_t km, const float *fs, const float *hs, float gcd, float gcdkm, float amind, float freq, float fsdead);
+
+/*
+ * The angle functions that the calls use, in radians: sine and cosine of -4 to 4, arcsine and
  * arccosine of -1 to 1, arctangent of any number. NaN elsewhere and for NaN. docs/ANGLES.md has their
  * recipes and bounds.
  */
@@ -53,8 +87,8 @@ float ray_atan(float x);
 #define RAY_ANSWER_BYTES 1460 /* an answer: 365 such words */
 #define RAY_STACK_BYTES 16384 /* ray_job uses some 8 kB of stack, as compiled; a test measures it */
 
-#define RAY_POINTS 5        /* points of a job */
-#define RAY_POINT_NUMBERS 3 /* critical frequencies of a point: E, F1, F2 */
+#define RAY_POINTS 5        /* points of a job, and at most of ray_esmod */
+#define RAY_POINT_NUMBERS 3 /* critical frequencies of a point: E, F1, F2; of ray_esmod, deciles and median */
 #define RAY_TABLE_ROWS 30   /* rows of fvert, hprim, htrue, afac; and of ifob for each angle */
 #define RAY_ENTRIES 1200    /* entries of ifob: 40 angles of 30 rows */
 #define RAY_LAYERS 3        /* layers of an answer: E, F1, F2 */
@@ -135,6 +169,18 @@ float ray_atan(float x);
 #define RAY_IFOB_MIN 0
 #define RAY_IFOB_MAX 99999
 
+/* Of ray_esmod, besides RAY_FREQ and RAY_AMIND. */
+#define RAY_KM_MIN 1
+#define RAY_KM_MAX 5
+#define RAY_HS_MIN 80.0f /* at each point that counts */
+#define RAY_HS_MAX 200.0f
+#define RAY_FS_MIN 0.0f /* each of the three at each point that counts, and fsdead */
+#define RAY_FS_MAX 100.0f
+#define RAY_GCD_MIN 0.001f
+#define RAY_GCD_MAX 3.2f
+#define RAY_GCDKM_MIN 0.0f
+#define RAY_GCDKM_MAX 20100.0f
+
 /* ---- Refusals -------------------------------------------------------------------------------- */
 
 #define RAY_REFUSED_JOB 1
@@ -147,8 +193,9 @@ float ray_atan(float x);
 #define RAY_REFUSED_FI 8
 #define RAY_REFUSED_TABLE 9
 #define RAY_REFUSED_IFOB 10
+#define RAY_REFUSED_ES 14 /* of ray_esmod alone */
 
-/* The sentence of a number that ray_job returned. */
+/* The sentence of a number that ray_job or ray_esmod gave. */
 static inline const char *ray_refusal_text(uint32_t number)
 {
     switch (number) {
@@ -163,6 +210,7 @@ static inline const char *ray_refusal_text(uint32_t number)
     case RAY_REFUSED_FI: return "a critical frequency of the point is not within its range";
     case RAY_REFUSED_TABLE: return "a value of the tables is not within its range";
     case RAY_REFUSED_IFOB: return "an entry of the oblique table, ifob, is not within 0 to 99999 kHz";
+    case RAY_REFUSED_ES: return "km, fs, hs, gcd, gcdkm or fsdead is not within its range";
     default: return "no limit has this number";
     }
 }
@@ -214,6 +262,12 @@ static inline int ray_slot_is_ray(const uint8_t *job, const uint8_t *answer, siz
 {
     return ray_get_u32(answer, RAY_ANSWER_ITMOD + slot) != RAY_LAYER_EMPTY
         && ray_get_f32(answer, RAY_ANSWER_DELMOD + slot) >= ray_get_f32(job, RAY_JOB_AMIND);
+}
+
+/* Whether a slot of ray_esmod's answer holds a ray. */
+static inline int ray_es_slot_is_ray(struct ray_es_hop slot)
+{
+    return slot.hn > 0.0f;
 }
 
 /* ---- Floating-point mode --------------------------------------------------------------------- */

@@ -119,11 +119,54 @@ static void accepted(const char *name)
     refused(job, RAY_JOB_IFOB + RAY_ENTRIES - 1, 0xffffffffu, RAY_REFUSED_IFOB);
 }
 
+/* A call on copies that have no float more, which must be left as they were. */
+static struct ray_es_modes called_es(size_t km, const float *fs, const float *hs, float gcd, float gcdkm)
+{
+    const size_t fs_bytes = RAY_POINTS * RAY_POINT_NUMBERS * sizeof *fs, hs_bytes = RAY_POINTS * sizeof *hs;
+    uint8_t *lent_fs = exactly((const uint8_t *)fs, fs_bytes), *lent_hs = exactly((const uint8_t *)hs, hs_bytes);
+    struct ray_es_modes modes =
+        ray_esmod(km, (const float *)(const void *)lent_fs, (const float *)(const void *)lent_hs, gcd, gcdkm, 3.0f, 14.2f, 1.0f);
+    CHECK(memcmp(lent_fs, fs, fs_bytes) == 0 && memcmp(lent_hs, hs, hs_bytes) == 0);
+    free(lent_fs);
+    free(lent_hs);
+    return modes;
+}
+
+static int is_empty(struct ray_es_hop slot)
+{
+    return slot.b == -1.0f && slot.hn == -1.0f && slot.hp == -1.0f && slot.timed == -1.0f && !ray_es_slot_is_ray(slot);
+}
+
+static void sporadic_e(void)
+{
+    float fs[RAY_POINTS][RAY_POINT_NUMBERS] = {{3.1f, 5.0f, 7.4f}, {2.2f, 3.6f, 5.9f}};
+    float hs[RAY_POINTS] = {110.0f, 105.0f, NAN, NAN, NAN};
+    const size_t wrong[] = {0, 3, 5, 6, (size_t)-1};
+    struct ray_es_modes modes = called_es(2, fs[0], hs, 0.25f, 1600.0f);
+    size_t i;
+    CHECK(modes.refusal == 0 && ray_es_slot_is_ray(modes.slot4) && ray_es_slot_is_ray(modes.slot5));
+    CHECK(modes.slot4.hn == 1.0f && modes.slot4.hp == 105.0f && modes.slot4.b >= 3.0f && modes.slot4.timed > 5.0f);
+    CHECK(modes.slot5.hn == 2.0f && modes.slot5.hp == 105.0f && modes.slot5.b > modes.slot4.b);
+    modes = called_es(2, fs[0], hs, 0.5f, 3200.0f);
+    CHECK(modes.refusal == 0 && modes.slot4.hn == 2.0f && is_empty(modes.slot5));
+    modes = called_es(2, fs[0], hs, 1.0f, 6400.0f);
+    CHECK(modes.refusal == 0 && is_empty(modes.slot4) && is_empty(modes.slot5));
+    for (i = 0; i < sizeof wrong / sizeof *wrong; i++) {
+        modes = called_es(wrong[i], fs[0], hs, 0.25f, 1600.0f);
+        CHECK(modes.refusal == RAY_REFUSED_ES && is_empty(modes.slot4) && is_empty(modes.slot5));
+    }
+    CHECK(called_es(2, fs[0], hs, RAY_GCD_MAX, RAY_GCDKM_MAX).refusal == 0);
+    CHECK(called_es(2, fs[0], hs, 0.25f, RAY_GCDKM_MAX + 1.0f).refusal == RAY_REFUSED_ES);
+    CHECK(ray_esmod(6, fs[0], hs, 0.0f, 0.0f, NAN, 1.0f, 1.0f).refusal == RAY_REFUSED_FREQ);
+    CHECK(ray_esmod(6, fs[0], hs, 0.0f, 0.0f, NAN, 2.0f, 1.0f).refusal == RAY_REFUSED_AMIND);
+}
+
 int main(int argc, char **argv)
 {
     int i;
     words();
     angles();
+    sporadic_e();
     for (i = 1; i < argc; i++)
         accepted(argv[i]);
     return failures != 0 || argc < 2;

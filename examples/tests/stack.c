@@ -1,5 +1,5 @@
 /* How much stack the calls use: on a stack of its own, painted beforehand, each JOB is worked out and
- * each angle function called:  stack JOB..
+ * each of the other functions called:  stack JOB..
  * Fails where that is more than RAY_STACK_BYTES. */
 #define _GNU_SOURCE
 #include "ray.h"
@@ -13,6 +13,8 @@ static uint8_t job[RAY_JOB_BYTES];
 static uint8_t answer[RAY_ANSWER_BYTES];
 static ucontext_t back, there;
 static volatile float angle;
+static const float fs[RAY_POINTS * RAY_POINT_NUMBERS] = {3.1f, 5.0f, 7.4f};
+static const float hs[RAY_POINTS] = {110.0f};
 
 static void empty(void)
 {
@@ -22,6 +24,7 @@ static void calls(void)
 {
     ray_job(job, sizeof job, answer, sizeof answer);
     angle = ray_sin(1.0f) + ray_cos(1.0f) + ray_asin(0.7f) + ray_acos(0.7f) + ray_atan(0.7f);
+    angle = ray_esmod(1, fs, hs, 0.25f, 1600.0f, 3.0f, 14.2f, 1.0f).slot4.b;
 }
 
 /* The bytes of the stack that a function changes. */

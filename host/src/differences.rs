@@ -8,7 +8,7 @@ use std::fmt;
 #[derive(Default)]
 pub struct Differences {
     runs: u64,
-    /// Runs whose layers or counts differ: there a row or a slot is another one.
+    /// Runs whose layers, counts or hops differ: there a row or a slot is another one.
     other_rows: u64,
     /// Of the other runs, those with a float that differs.
     other_bits: u64,
@@ -67,7 +67,10 @@ impl Differences {
 impl fmt::Display for Differences {
     fn fmt(&self, f: &mut fmt::Formatter) -> fmt::Result {
         let Differences { runs, other_rows, other_bits, .. } = self;
-        write!(f, "the Rust as it comes, {runs} runs: {other_rows} with other rows or layers, ")?;
+        write!(
+            f,
+            "the Rust as it comes, {runs} runs: {other_rows} with other rows, layers or hops, "
+        )?;
         write!(f, "{other_bits} with other bits")?;
         for (name, Differing { count, by_one_step, greatest }) in &self.fields {
             write!(f, "\n  {name}: {count} numbers, {by_one_step} of them by one step, ")?;

@@ -1,6 +1,6 @@
 //! The library's C entry points: the one place that knows their form.
 
-use crate::record::fields_of_the_rust;
+use crate::record::{fields, fields_of_the_rust};
 
 /// What `prbmuf` reads of an hour: the deciles of the layers E, F1, F2 and Es.
 #[repr(C)]
@@ -202,6 +202,33 @@ pub struct FdistJob {
     pub freq: f32,
 }
 
+fields! {
+    /// A slot of `esmod`: -1 in all four where it is empty.
+    EsHop { b hn hp timed: f32 }
+}
+
+/// `esmod`'s answer.
+#[repr(C)]
+#[derive(Clone, Copy)]
+pub struct EsModes {
+    pub refusal: u32,
+    pub slot4: EsHop,
+    pub slot5: EsHop,
+}
+
+/// `esmod`'s arguments.
+#[derive(Clone, Copy, Debug)]
+pub struct EsJob {
+    pub km: usize,
+    pub fs: [[f32; 3]; 5],
+    pub hs: [f32; 5],
+    pub gcd: f32,
+    pub gcdkm: f32,
+    pub amind: f32,
+    pub freq: f32,
+    pub fsdead: f32,
+}
+
 // Safe to call: the functions take any numbers, and of the memory lent they read and write the
 // array or the number alone, during the call alone.
 unsafe extern "C" {
@@ -297,6 +324,19 @@ unsafe extern "C" {
         amind: f32,
         freq: f32,
     ) -> Searched;
+
+    /// On a refusal both slots are empty.
+    #[link_name = "ray_esmod"]
+    pub safe fn esmod(
+        km: usize,
+        fs: &[[f32; 3]; 5],
+        hs: &[f32; 5],
+        gcd: f32,
+        gcdkm: f32,
+        amind: f32,
+        freq: f32,
+        fsdead: f32,
+    ) -> EsModes;
 
     #[link_name = "ray_sin"]
     pub safe fn sin(x: f32) -> f32;

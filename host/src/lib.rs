@@ -8,6 +8,7 @@ pub mod demand;
 pub mod differences;
 pub mod ensure;
 pub mod entries;
+pub mod esmod;
 pub mod exact;
 pub mod fdist;
 pub mod findf;

@@ -1,6 +1,6 @@
-//! Document 01's limits as the tests compute them, apart from the library.
+//! The limits of document 01 and of its orders as the tests compute them, apart from the library.
 
-use crate::entries::{AllModes, FdistJob, FindfJob, Zon};
+use crate::entries::{AllModes, EsJob, FdistJob, FindfJob, Zon};
 use crate::job::{Answer, Job};
 use std::ops::RangeInclusive;
 
@@ -14,6 +14,12 @@ pub const HPRIM: RangeInclusive<f32> = 0.0..=10000.0;
 pub const HTRUE: RangeInclusive<f32> = 0.0..=2000.0;
 pub const AFAC: RangeInclusive<f32> = -1000000.0..=1000000.0;
 pub const IFOB: RangeInclusive<i32> = 0..=99999;
+pub const KM: RangeInclusive<usize> = 1..=5;
+pub const HS: RangeInclusive<f32> = 80.0..=200.0;
+pub const GCD: RangeInclusive<f32> = 0.001..=3.2;
+pub const GCDKM: RangeInclusive<f32> = 0.0..=20100.0;
+/// "each fs and fsdead"
+pub const FS: RangeInclusive<f32> = 0.0..=100.0;
 
 /// The number of the first test that fails, else 0.
 fn first_broken(tests: &[(u32, &dyn Fn() -> bool)]) -> u32 {
@@ -59,6 +65,20 @@ pub fn fdist(job: &FdistJob) -> u32 {
         (5, &|| FREQ.contains(&job.freq)),
         (6, &|| AMIND.contains(&job.amind)),
         (7, &|| GHOP.contains(&job.ghop)),
+    ])
+}
+
+/// The limit that `esmod` breaks first, else 0: "Errors: 14, a point count outside 1 to 5, or a
+/// number outside these ranges (of the points, only those counted), after 5 and 6."
+pub fn esmod(job: &EsJob) -> u32 {
+    first_broken(&[
+        (5, &|| FREQ.contains(&job.freq)),
+        (6, &|| AMIND.contains(&job.amind)),
+        (14, &|| KM.contains(&job.km)),
+        (14, &|| job.fs[..job.km].as_flattened().iter().all(|fs| FS.contains(fs))),
+        (14, &|| job.hs[..job.km].iter().all(|hs| HS.contains(hs))),
+        (14, &|| GCD.contains(&job.gcd) && GCDKM.contains(&job.gcdkm)),
+        (14, &|| FS.contains(&job.fsdead)),
     ])
 }
 

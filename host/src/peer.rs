@@ -1,6 +1,9 @@
 //! The benchmark's peers: a job call on the Rust as it comes, as one would write it in Rust, with
-//! document 01's limits and without. It has no counts: looks and pairs are 0.
+//! document 01's limits and without. It has no counts: looks and pairs are 0. And the lines of the
+//! Rust's esmod that make its geometry, in the same two ways.
 
+use crate::con::{PIO2, R2D, RZ, VOFL};
+use crate::entries::{EsHop, EsJob, EsModes};
 use crate::job::{Answer, Job};
 use crate::limits;
 use crate::oracle::as_it_comes::{fdist, findf};
@@ -161,4 +164,74 @@ fn solve<const CHECKED: bool>(job: &[u8], answer: &mut [u8]) -> u32 {
     room.ints(&m.itmod);
     room.floats(&m.afmod);
     0
+}
+
+/// The first of esmod's limits that is broken, else 0.
+fn broken_by_es(job: &EsJob) -> u32 {
+    let EsJob { km, fs, hs, gcd, gcdkm, amind, freq, fsdead } = job;
+    if !limits::FREQ.contains(freq) {
+        5
+    } else if !limits::AMIND.contains(amind) {
+        6
+    } else if limits::KM.contains(km)
+        && within(fs[..*km].as_flattened(), limits::FS)
+        && within(&hs[..*km], limits::HS)
+        && limits::GCD.contains(gcd)
+        && limits::GCDKM.contains(gcdkm)
+        && limits::FS.contains(fsdead)
+    {
+        0
+    } else {
+        14
+    }
+}
+
+/// With the limits: what the library's esmod does.
+#[inline(never)]
+pub fn esmod(job: &EsJob) -> EsModes {
+    hops::<true>(job)
+}
+
+/// Without any: the Rust's own trust in its caller.
+#[inline(never)]
+pub fn unchecked_esmod(job: &EsJob) -> EsModes {
+    hops::<false>(job)
+}
+
+#[inline(always)]
+fn hops<const CHECKED: bool>(job: &EsJob) -> EsModes {
+    let empty = EsHop { b: -1.0, hn: -1.0, hp: -1.0, timed: -1.0 };
+    let mut modes = EsModes { refusal: 0, slot4: empty, slot5: empty };
+    if CHECKED {
+        modes.refusal = broken_by_es(job);
+        if modes.refusal > 0 {
+            return modes;
+        }
+    }
+    let mut k = 0;
+    for is in 0..job.km {
+        if job.fs[k][1] - job.fs[is][1] > 0.0 {
+            k = is;
+        }
+    }
+    let hs = job.hs[k];
+    if job.freq <= job.fsdead || job.fs[k][1] <= 0.0 {
+        return modes;
+    }
+    let sdmax = 2.0 * RZ * (PIO2 - (1.0 / (1.0 + hs / RZ)).asin());
+    let ihsrt = (job.gcdkm / sdmax + 1.0) as i32;
+    for (ihop, slot) in (ihsrt..=2).zip([&mut modes.slot4, &mut modes.slot5]) {
+        let hop = ihop as f32;
+        let thet = 0.5 * (job.gcd / hop);
+        let sine = thet.sin();
+        let psi = (sine / (1.0 - thet.cos() + hs / RZ)).atan();
+        let del = PIO2 - thet - psi;
+        let adel = del * R2D;
+        if adel < job.amind {
+            continue;
+        }
+        let path = hop * (2.0 * sine * (RZ + hs) / del.cos());
+        *slot = EsHop { b: adel, hn: hop, hp: hs, timed: path / VOFL };
+    }
+    modes
 }

@@ -8,7 +8,7 @@ pub const GIVEN: [&str; 5] = ["nothing", "first row", "equal lengths", "second r
 
 pub struct Tally {
     /// How many jobs were refused by each number; accepted ones at 0.
-    pub refusals: [u64; 14],
+    pub refusals: [u64; 15],
 
     // Of walks.
     pub walks: u64,
@@ -42,6 +42,12 @@ pub struct Tally {
     pub standing: u64,
     pub stood: u64,
 
+    // Of sporadic E.
+    /// How many left both slots empty, filled slot 4 alone, slot 5 alone, and both.
+    pub slots: [u64; 4],
+    /// How many were governed by each point.
+    pub points: [u64; 5],
+
     #[cfg(oracle)]
     pub differences: Differences,
 }
@@ -49,7 +55,7 @@ pub struct Tally {
 impl Default for Tally {
     fn default() -> Self {
         Tally {
-            refusals: [0; 14],
+            refusals: [0; 15],
             walks: 0,
             layers: [0; 3],
             dead: 0,
@@ -66,6 +72,8 @@ impl Default for Tally {
             straddling: 0,
             standing: 0,
             stood: 0,
+            slots: [0; 4],
+            points: [0; 5],
             #[cfg(oracle)]
             differences: Differences::default(),
         }
@@ -93,6 +101,12 @@ impl Tally {
         self.rays[rays as usize] += 1;
     }
 
+    /// An accepted job of esmod: the hops of slots 4 and 5, 0 where empty, and the point.
+    pub fn add_hops(&mut self, [slot4, slot5]: [u32; 2], point: usize) {
+        self.slots[usize::from(slot4 > 0) + 2 * usize::from(slot5 > 0)] += 1;
+        self.points[point] += 1;
+    }
+
     pub fn merge(&mut self, other: Self) {
         let add = |ours: &mut [u64], theirs: &[u64]| {
             ours.iter_mut().zip(theirs).for_each(|(ours, theirs)| *ours += theirs);
@@ -102,6 +116,8 @@ impl Tally {
         add(&mut self.rays, &other.rays);
         add(&mut self.pairs, &other.pairs);
         add(&mut self.given, &other.given);
+        add(&mut self.slots, &other.slots);
+        add(&mut self.points, &other.points);
         self.walks += other.walks;
         self.dead += other.dead;
         self.nan += other.nan;
@@ -119,7 +135,7 @@ impl Tally {
     }
 
     pub fn print(&self, name: &str) {
-        println!("{name}: {} accepted, refused {:?}", self.refusals[0], &self.refusals[1..11]);
+        println!("{name}: {} accepted, refused {:?}", self.refusals[0], &self.refusals[1..]);
         if self.walks > 0 {
             let Tally { layers: [e, f1, f2], dead, nan, most_rows, .. } = self;
             println!(
@@ -142,6 +158,11 @@ impl Tally {
             println!(
                 "  {straddling} had straddling rows; in {standing} a ray had to stand, {stood} in all"
             );
+        }
+        if self.slots != [0; 4] {
+            let [none, slot4, slot5, both] = self.slots;
+            println!("  no hop {none}, slot 4 alone {slot4}, slot 5 alone {slot5}, both {both}");
+            println!("  governed by point 0 to 4 {:?}", self.points);
         }
         #[cfg(oracle)]
         println!("  {}", self.differences);

@@ -168,10 +168,44 @@ fn the_pages_tables() {
             assert_eq!(range.trim_end(), field.range().to_string(), "{name}");
         }
     }
-    let sentences = table("| number | sentence |");
-    let wrappers = Refusal::ALL.iter();
-    let wrappers = wrappers.map(|r| vec![r.number().to_string(), r.sentence().to_string()]);
-    assert_eq!(sentences, wrappers.collect::<Vec<_>>());
+    let sentences = |refusals: &[Refusal]| -> Vec<_> {
+        let row = |r: &Refusal| vec![r.number().to_string(), r.sentence().to_string()];
+        refusals.iter().map(row).collect()
+    };
+    let (of_es, of_jobs): (Vec<_>, _) = Refusal::ALL.iter().partition(|r| **r == Refusal::ES);
+    assert_eq!(of_es, [Refusal::ES]);
+    assert_eq!(table("| number | sentence |"), sentences(&of_jobs));
+    let of_es = [Refusal::FREQ, Refusal::AMIND, Refusal::ES];
+    assert_eq!(table("| number | sentence of `ray_esmod` |"), sentences(&of_es));
+}
+
+/// The page's arguments and numbers of `ray_esmod` are the header's.
+#[test]
+fn the_pages_tables_of_sporadic_e() {
+    let header = read("include/ray.h");
+    let rows = table("| argument | type | count | unit | range | is |");
+    let names: Vec<_> = rows.iter().map(|row| row[0].trim_matches('`').to_string()).collect();
+    let expected = ["km", "fs", "hs", "gcd", "gcdkm", "amind", "freq", "fsdead"];
+    assert_eq!(names, expected);
+    for (name, row) in expected.iter().zip(&rows) {
+        let limit = if *name == "fsdead" { "FS" } else { &name.to_uppercase() };
+        let [low, high] = ["MIN", "MAX"].map(|end| number(&format!("{limit}_{end}")));
+        assert_eq!(row[4], format!("{low} to {high}"), "{name}");
+        // The header's remark on the argument starts with its unit.
+        let remark =
+            format!(" *   {name:<7} {}", if row[3].is_empty() { "how many" } else { &row[3] });
+        assert!(header.lines().any(|line| line.starts_with(&remark)), "{remark}");
+    }
+    let rows = table("| number of a slot | unit | is |");
+    let fields = fields("crates/esmod/src/lib.rt", "pub struct EsHop");
+    assert_eq!(rows.len(), fields.len());
+    for ([name, _], row) in fields.iter().zip(&rows) {
+        assert_eq!(row[0], format!("`{name}`"));
+        let remark = format!("/* {}", if row[1].is_empty() { "the number" } else { &row[1] });
+        let field = format!("    float {name}; ");
+        let line = header.lines().find(|line| line.starts_with(&field)).expect(&field);
+        assert!(line.contains(&remark), "{line}");
+    }
 }
 
 /// The header's remarks have the types and units of the page: `u`, `i` or `f`, then the unit.
@@ -255,6 +289,13 @@ fn ranges() {
         assert_eq!(headers, crates, "{name}");
         assert_eq!([field.range().low, field.range().high], crates, "{name}");
     }
+    let of_es = [("HS", ends("hs", 0)), ("FS", ends("fs", 0)), ("GCD", ends("gcd", 0))];
+    let of_es = of_es.into_iter().chain([("GCDKM", ends("gcdkm", 0))]);
+    for (name, crates) in of_es.clone() {
+        assert_eq!(["MIN", "MAX"].map(|end| number(&format!("{name}_{end}"))), crates, "{name}");
+    }
+    let [low, high] = ["KM_MIN", "KM_MAX"].map(number);
+    assert!(has("km", &format!("({low} <= km) & (km <= {high})")));
     for (field, function, name) in [(Field::K, "k", "K_MAX"), (Field::Nang, "nang", "NANG_MAX")] {
         let most = number(name);
         assert!(has(function, &format!("{function} <= {most}")), "{name}");
@@ -264,21 +305,21 @@ fn ranges() {
     assert!(has("entries", &format!("entry > {high}")) && has("entries", "0 <= bits"));
     assert_eq!([low, high], [Field::Ifob.range().low, Field::Ifob.range().high]);
     let ends = defined().into_iter().filter(|(n, _)| n.ends_with("_MIN") || n.ends_with("_MAX"));
-    assert_eq!(ends.count(), 2 * floats.len() + 2 + 2);
+    assert_eq!(ends.count(), 2 * floats.len() + 2 + 2 + 2 * of_es.count() + 2);
     assert_eq!(number("EARTH_KM"), ray::EARTH_KM);
     let radius: f32 = constants("crates/arith/src/lib.rt")["RZ"].parse().unwrap();
     assert_eq!(radius, ray::EARTH_KM);
 }
 
 /// Refusals of functions that have no C entry in the product's library.
-const NOT_OF_A_JOB: [&str; 3] = ["SLOTS", "COUNT", "LAYER"];
+const WITHOUT_ENTRY: [&str; 3] = ["SLOTS", "COUNT", "LAYER"];
 
 #[test]
 fn refusals() {
     let limits = constants("crates/limits/src/lib.rt");
     let numbers = limits.iter().filter_map(|(name, n)| {
         let name = name.strip_prefix("REFUSAL_")?;
-        (!NOT_OF_A_JOB.contains(&name)).then(|| (name.to_string(), n.parse().unwrap()))
+        (!WITHOUT_ENTRY.contains(&name)).then(|| (name.to_string(), n.parse().unwrap()))
     });
     let headers = defined_as("REFUSED_");
     assert_eq!(headers, numbers.collect());
@@ -300,13 +341,19 @@ fn refusals() {
         assert!(sentence(field.refusal()).ends_with(&ends), "{ends}");
         assert!(sentence(field.refusal()).contains(field.name()));
     }
+    for name in ["km", "fs", "hs", "gcd", "gcdkm", "fsdead"] {
+        let words = sentence(Refusal::ES).split([' ', ',']);
+        assert!(words.clone().any(|word| word == name), "{name}");
+    }
 }
 
 /// A parameter of a C entry, in C and in Rust: a slice is a pointer, then a length.
 fn lowered(parameter: &str) -> [String; 2] {
     let (name, kind) = parameter.split_once(": ").expect(parameter);
     match kind {
-        "f32" => [format!("float {name}"), format!("{name}: f32")],
+        "f32" => [format!("float {name}"), parameter.to_string()],
+        "usize" => [format!("size_t {name}"), parameter.to_string()],
+        "&[f32; 5]" | "&[[f32; 3]; 5]" => [format!("const float *{name}"), parameter.to_string()],
         "&[u8]" => [
             format!("const uint8_t *{name}, size_t {name}_bytes"),
             format!("{name}: *const u8, {name}_bytes: usize"),
@@ -319,12 +366,19 @@ fn lowered(parameter: &str) -> [String; 2] {
     }
 }
 
+/// A text on one line, without a comma behind the last parameter.
+fn on_one_line(text: &str) -> String {
+    let text = text.split_whitespace().collect::<Vec<_>>().join(" ");
+    text.replace("( ", "(").replace(", )", ")")
+}
+
 /// The C entries of raycore, as C and as Rust declare them, sorted.
 fn entries() -> [Vec<String>; 2] {
     let crates = read("crates/raycore/src/lib.rt");
-    let entries = crates.lines().filter_map(|line| line.strip_prefix("pub extern \"C\" fn "));
+    let entries = crates.split("pub extern \"C\" fn ").skip(1);
     let mut declared = [vec![], vec![]];
     for entry in entries {
+        let entry = on_one_line(entry.split_once("\n    ensures ").unwrap().0);
         let (name, rest) = entry.split_once('(').unwrap();
         let (parameters, result) = rest.split_once(") -> ").unwrap();
         let lowered: Vec<_> = parameters.split(", ").map(lowered).collect();
@@ -333,14 +387,57 @@ fn entries() -> [Vec<String>; 2] {
         let in_c = match result {
             "f32" => "float",
             "u32" => "uint32_t",
+            "EsModes" => "struct ray_es_modes",
             _ => panic!("{entry}"),
         };
         declared[0].push(format!("{in_c} {name}({c});"));
         declared[1].push(format!("fn {name}({rust}) -> {result};"));
     }
     declared.iter_mut().for_each(|entries| entries.sort());
-    assert!(declared[0].len() >= 6);
+    assert!(declared[0].len() >= 7);
     declared
+}
+
+/// The fields of a struct, name and type, in their order.
+fn fields(file: &str, name: &str) -> Vec<[String; 2]> {
+    let text = read(file);
+    let (_, body) = text.split_once(&format!("{name} {{\n")).expect(name);
+    let lines = body.split_once("\n}").unwrap().0.lines();
+    let field = |line: &str| match line.trim().strip_prefix("pub ") {
+        Some(of_rust) => {
+            let (name, kind) = of_rust.trim_end_matches(',').split_once(": ").unwrap();
+            [name.to_string(), kind.to_string()]
+        }
+        None => {
+            let (of_c, _) = line.split_once(';').unwrap();
+            let (kind, name) = of_c.trim().rsplit_once(' ').unwrap();
+            [name.to_string(), kind.to_string()]
+        }
+    };
+    lines.map(field).collect()
+}
+
+/// The structs that the C entries hand back have the same fields in the crates, in the header and in
+/// the wrapper.
+#[test]
+fn structs() {
+    let in_c = |[name, kind]: [String; 2]| {
+        let kind = match kind.as_str() {
+            "f32" => "float",
+            "u32" => "uint32_t",
+            "EsHop" => "struct ray_es_hop",
+            _ => panic!("{name}: {kind}"),
+        };
+        [name, kind.to_string()]
+    };
+    for (name, c_name) in [("EsHop", "ray_es_hop"), ("EsModes", "ray_es_modes")] {
+        let crates = fields("crates/esmod/src/lib.rt", &format!("#[repr(C)]\npub struct {name}"));
+        let wrappers = fields("host/ray/src/call.rs", &format!("pub struct {name}"));
+        assert_eq!(wrappers, crates);
+        let headers = fields("include/ray.h", &format!("\nstruct {c_name}"));
+        assert_eq!(headers, crates.into_iter().map(in_c).collect::<Vec<_>>());
+    }
+    assert_eq!(read("host/ray/src/call.rs").matches("#[repr(C)]\n").count(), 2);
 }
 
 #[test]
@@ -353,12 +450,10 @@ fn entry_points() {
     // The wrapper's declarations, each on one line.
     let call = read("host/ray/src/call.rs");
     let (_, block) = call.split_once("unsafe extern \"C\" {").unwrap();
-    let block =
-        block.split_once("\n    }").unwrap().0.split_whitespace().collect::<Vec<_>>().join(" ");
-    let block = block.replace("( ", "(").replace(", )", ")");
-    let of_rust = block.split_inclusive(';').map(|line| {
-        let (_, declaration) = line.split_once("fn ").unwrap();
-        format!("fn {declaration}")
+    let block = on_one_line(block.split_once("\n    }").unwrap().0);
+    let of_rust = block.split("fn ").skip(1).map(|declaration| {
+        let (declaration, _) = declaration.rsplit_once(';').unwrap();
+        format!("fn {declaration};")
     });
     let mut of_rust: Vec<_> = of_rust.collect();
     of_rust.sort();

@@ -1,10 +1,10 @@
-//! Limits 1 to 13: the right number, and nothing changed.
+//! Limits 1 to 14: the right number, and nothing changed.
 
-use host::entries::{self, AllModes, FindfJob, HopModes, MufHour, Reflectrix, Zon};
+use host::entries::{self, AllModes, EsJob, FindfJob, HopModes, MufHour, Reflectrix, Zon};
 use host::job::{self, Answer, Job};
 use host::prng::Prng;
 use host::tally::Tally;
-use host::{fdist, findf, floats, limits};
+use host::{esmod, fdist, findf, floats, limits};
 
 const LAYERS_OUTSIDE: [usize; 6] = [0, 5, 6, 1 << 32, usize::MAX - 1, usize::MAX];
 const COUNTS: [usize; 8] = [0, 13, 14, 19, 20, 21, 25, usize::MAX];
@@ -372,5 +372,103 @@ fn jobs_are_refused_by_the_first_of_all_limits() {
             let job = [&good[..end], &bad[end..]].concat();
             assert_eq!(job_refusal(&mut prng, &job, Answer::BYTES), number, "{end}");
         }
+    }
+}
+
+/// The number that esmod refuses a job with. It must be the one by the limits, and a refusal must
+/// leave both slots empty.
+fn es_refusal(prng: &mut Prng, job: &EsJob) -> u32 {
+    esmod::check(&esmod::ours, job, prng, &mut Tally::default()).unwrap();
+    limits::esmod(job)
+}
+
+/// A job within the limits, whatever its km.
+fn good_es_job(prng: &mut Prng) -> EsJob {
+    EsJob { km: 5, ..esmod::coast(prng) }
+}
+
+/// Where a number that has limits stands among the points, of those that do.
+fn point_of(place: usize) -> Option<usize> {
+    match place {
+        0..5 => None,
+        5..10 => Some(place - 5),
+        _ => Some((place - 10) / 3),
+    }
+}
+
+/// Each by itself, for every count of points: of those that are not counted none is looked at.
+#[test]
+fn esmod_refuses_each_number_beyond_its_limits() {
+    let mut prng = Prng::new(65);
+    let good = good_es_job(&mut prng);
+    for km in esmod::KMS {
+        let job = EsJob { km, ..good };
+        let by_count = if limits::KM.contains(&km) { 0 } else { 14 };
+        assert_eq!(es_refusal(&mut prng, &job), by_count, "{km}");
+        for place in 0..esmod::LIMITED {
+            let (_, range, number) = esmod::limited(&mut { job }, place);
+            for float in floats::about(*range.start(), *range.end()) {
+                let mut job = job;
+                *esmod::limited(&mut job, place).0 = float;
+                let counted = point_of(place).is_none_or(|point| point < km);
+                let broken = counted && !range.contains(&float);
+                // 5 and 6 come before the count of the points.
+                let expected = if broken { number } else { by_count };
+                let found = es_refusal(&mut prng, &job);
+                assert_eq!(found, expected, "km {km}, place {place}, {float:e}");
+            }
+        }
+    }
+}
+
+/// Each with every other.
+#[test]
+fn esmod_refuses_by_the_first_of_two_limits() {
+    let mut prng = Prng::new(66);
+    let good = good_es_job(&mut prng);
+    let mut found = [0; 15];
+    for one in 0..esmod::LIMITED {
+        for two in one + 1..esmod::LIMITED {
+            let (_, range, first) = esmod::limited(&mut { good }, one);
+            let (_, other_range, second) = esmod::limited(&mut { good }, two);
+            for x in floats::about(*range.start(), *range.end()) {
+                for y in floats::about(*other_range.start(), *other_range.end()) {
+                    let mut job = good;
+                    *esmod::limited(&mut job, one).0 = x;
+                    *esmod::limited(&mut job, two).0 = y;
+                    let expected = match (range.contains(&x), other_range.contains(&y)) {
+                        (false, false) => first.min(second),
+                        (false, true) => first,
+                        (true, false) => second,
+                        (true, true) => 0,
+                    };
+                    assert_eq!(es_refusal(&mut prng, &job), expected, "{one} {x:e}, {two} {y:e}");
+                    found[expected as usize] += 1;
+                }
+            }
+        }
+    }
+    assert!([0, 5, 6, 14].iter().all(|number| found[*number] > 1_000), "{found:?}");
+}
+
+/// All limits broken, then mended one by one.
+#[test]
+fn esmod_refuses_by_the_first_of_all_limits() {
+    let mut prng = Prng::new(67);
+    let good = good_es_job(&mut prng);
+    for bad in [f32::NAN, f32::INFINITY, f32::NEG_INFINITY, 2e6, -1.0] {
+        let mut job = EsJob { km: 0, fs: [[bad; 3]; 5], hs: [bad; 5], gcd: bad, ..good };
+        (job.gcdkm, job.amind, job.freq, job.fsdead) = (bad, bad, bad, bad);
+        assert_eq!(es_refusal(&mut prng, &job), 5, "{bad}");
+        job.freq = good.freq;
+        assert_eq!(es_refusal(&mut prng, &job), 6, "{bad}");
+        job.amind = good.amind;
+        assert_eq!(es_refusal(&mut prng, &job), 14, "{bad}");
+        job.km = good.km;
+        for place in 2..esmod::LIMITED {
+            assert_eq!(es_refusal(&mut prng, &job), 14, "{bad}, place {place}");
+            *esmod::limited(&mut job, place).0 = *esmod::limited(&mut { good }, place).0;
+        }
+        assert_eq!(es_refusal(&mut prng, &job), 0, "{bad}");
     }
 }

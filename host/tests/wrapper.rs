@@ -1,12 +1,13 @@
 //! The safe wrapper says what the answer's bytes say, and its builder refuses what the library
 //! refuses.
 
-use host::entries;
+use host::entries::{self, EsJob};
+use host::esmod;
 use host::job::{self as raw, KINDS};
 use host::limits;
 use host::prng::Prng;
 use host::samples::samples;
-use ray::{Answer, Field, Job, Layer, Ray, Refusal, Row, Skip, Slot};
+use ray::{Answer, Es, EsHop, EsPoint, Field, Job, Layer, Ray, Refusal, Row, Skip, Slot};
 use std::fs;
 use std::path::Path;
 
@@ -250,5 +251,48 @@ fn the_builder_puts_what_it_is_given() {
 fn a_job_of_another_length_is_refused() {
     for length in [0, 1, 5359, 5361, 10720] {
         assert_eq!(Job::from_bytes(&vec![0; length]).unwrap_err(), Refusal::JOB);
+    }
+}
+
+/// A ray by sporadic E, or -1 in all four numbers.
+fn es_words(hop: Option<EsHop>) -> [u32; 4] {
+    let numbers = |EsHop { angle, hops, height, delay, .. }| [angle, hops as f32, height, delay];
+    bits(hop.map_or([-1.0; 4], numbers))
+}
+
+/// The wrapper against the library's own call, on as many points as the job counts, up to 7: those
+/// beyond the fifth may be anything.
+#[test]
+fn random_jobs_of_sporadic_e() {
+    let mut prng = Prng::new(51);
+    let mut found = [0; 15];
+    for (_, kind) in esmod::KINDS {
+        for _ in 0..10_000 {
+            let job = kind(&mut prng);
+            let job = EsJob { km: job.km.min(7), ..job };
+            let EsJob { km, gcd, gcdkm, amind, freq, fsdead, .. } = job;
+            let point = |i| match i {
+                0..5 => EsPoint { fs: job.fs[i], hs: job.hs[i] },
+                _ => EsPoint { fs: [prng.float(); 3], hs: prng.float() },
+            };
+            let points: Vec<EsPoint> = (0..km).map(point).collect();
+            let path = Es { points: &points, gcd, gcdkm, amind, freq, fsdead };
+            let answer = esmod::ours(&job);
+            match path.solve() {
+                Err(refusal) => assert_eq!(refusal.number(), answer.refusal),
+                Ok(modes) => {
+                    assert_eq!(answer.refusal, 0);
+                    for (ours, raw) in [(modes.slot4, answer.slot4), (modes.slot5, answer.slot5)] {
+                        assert_eq!(es_words(ours), bits([raw.b, raw.hn, raw.hp, raw.timed]));
+                    }
+                    let both = [modes.slot4, modes.slot5].into_iter().flatten();
+                    assert!(modes.hops().eq(both));
+                }
+            }
+            found[answer.refusal as usize] += 1;
+        }
+    }
+    for number in [0, 5, 6, 14] {
+        assert!(found[number] > 500, "{number}: {found:?}");
     }
 }

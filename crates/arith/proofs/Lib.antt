@@ -1,4 +1,5 @@
 pub mod Order
 pub mod RoundedLaws
 pub mod RunLaws
+pub mod ScaledLaws
 mod Magnitude

@@ -1,28 +1,27 @@
 -- The sign of a rounded result, and a number cut to a whole one. Assumes nothing.
 use mathlib.Core.Path.{_≡_, refl, sym, ap, _∙_, subst}
-use mathlib.Core.Bool.{Bool, true, false, not, _&&_, _||_, cond}
-use mathlib.Core.Logic.{_⊎_, inl, inr}
-use Prim.Native.Nat.{ℕ, zero, suc, _+_, _-_, _*_, _/_, _%_, _^_, _≤_, _<_, zero-le, suc-le-suc, min}
-use native.Mathlib.Nat.{le-trans, le-of-eq, mul-one, one-mul, zero-mul, add-comm, add-mul, mul-comm, mul-assoc, mul-right-comm, mul-sub, le-div-iff-mul-le, mul-le-mul-right, mul-le-mul, mul-pos, zero-lt-suc}
+use mathlib.Core.Bool.{Bool, true, false, not, _&&_, cond, not-and-self}
+use Prim.Native.Nat.{ℕ, zero, suc, _+_, _-_, _*_, _/_, _^_, _≤_, _<_, min}
+use native.Mathlib.Nat.{le-trans, le-of-eq, mul-one, one-mul, zero-mul, add-comm, add-mul, mul-comm, mul-assoc, mul-right-comm, mul-sub, le-div-iff-mul-le, le-mul-of-pos-right, mul-pos, zero-lt-suc}
 use native.Mathlib.Omega.{arith}
-use lib.Dec.{T, leb, ltb, eqb, ltb→lt, eqb→eq, lit<}
-use lib.IntN.{ℤ, pos, negsuc}
-use lib.Pow.{pow-pos, pow-add}
-use lib.Ieee.{Float, nan, inf, fin, binary32, unlike, up, down, size, odd, units, round, neg, sum, add, sub, mul, div, below, ofFields, ofBits, toBits, lt, le, eq, fits, toUnsigned, toSigned}
-use lib.Ieee.Fits.{up-pos, down-pos, and-l, round-is, core}
-use lib.Ieee.Bits.{is-true, ofBits-toBits}
-use lib.Ieee.Exact.{HasValue, odd-sign}
+use lib.Dec.{T, leb, ltb, eqb, ltb→lt, eqb→eq, lit<, lit≤}
+use lib.IntN.{ℤ, pos}
+use lib.Ieee.{Float, nan, inf, fin, binary32, unlike, up, down, size, odd, units, round, neg, sum, add, sub, div, below, ofBits, lt, le, eq, fits, toUnsigned, toSigned}
+use lib.Ieee.Fits.{up-pos, down-pos, and-l, round-is}
+use lib.Ieee.Bits.{is-true}
+use lib.Ieee.Exact.{HasValue}
 use lib.Ieee.Order.{le-of-values, round-mono}
 use lib.Ieee.Scale.{round-same, finite}
-use lib.Ieee.Positive.{num, den, positive, above, above-of-le, positive-of-value, le→cross, values-of-le}
+use lib.Ieee.Positive.{positive, above, above-of-le, first-pos, positive-of-value, le→cross, values-of-le}
 use borrow.Author.Tests.{ltb-true, ltb-false, lt-ltb, le-ltb, le-leb, leb-true, leb-false, ne-eqb}
-use Rattle.arith.specs.Floats.{f32, _⊕_, _⊖_, _⊗_, _⊘_}
+use Rattle.arith.specs.Floats.{_⊕_, _⊖_, _⊘_, scaled}
 use Rattle.arith.specs.Numbers.{0·0, 1·0}
 use Rattle.arith.proofs.Order.{no, flag}
+use Rattle.arith.proofs.ScaledLaws.{scaled-exact}
 
 -- ---- above 0 where the fraction is, if that is 2 ^ -149 at least
 
-pub above-is : (x : Float) → lt 0·0 x ≡ above x
+above-is : (x : Float) → lt 0·0 x ≡ above x
 unfolding lt ofBits
 above-is nan = refl
 above-is (inf s) = refl
@@ -30,18 +29,15 @@ above-is (fin true m e) = refl
 above-is (fin false zero e) = le-ltb (0 * down e) (0 * up e * 1) (omega arith)
 above-is (fin false (suc m) e) = let p : 0 < suc m * up e = mul-pos (zero-lt-suc m) (up-pos e) in lt-ltb (0 * down e) (suc m * up e * 1) (omega arith) ∙ sym (lt-ltb 0 (suc m) (zero-lt-suc m))
 
-odd-negative : (d q k l : ℕ) → lt 0·0 (odd d true q k l) ≡ false
+negative : (t : Bool) (q k : ℕ) → lt 0·0 (cond t (odd 25 true q k 149) (inf true)) ≡ false
 unfolding lt ofBits odd
-odd-negative d zero k l = refl
-odd-negative d (suc q) k l = refl
+negative true zero k = refl
+negative true (suc q) k = refl
+negative false q k = refl
 
 units-negative : (q k : ℕ) → lt 0·0 (units binary32 true q k) ≡ false
 unfolding units
-units-negative q k = go (ltb (q * 2 ^ k) (2 ^ 277))
-  where
-    go : (b : Bool) → lt 0·0 (cond b (odd 25 true q k 149) (inf true)) ≡ false
-    go true = odd-negative 25 q k 149
-    go false = unfold lt ofBits in refl
+units-negative q k = negative (ltb (q * 2 ^ k) (2 ^ 277)) q k
 
 round-negative : (a c : ℕ) → lt 0·0 (round binary32 true a c) ≡ false
 round-negative a c = ap (lt 0·0) (round-is binary32 true a c) ∙ units-negative _ _
@@ -50,92 +46,58 @@ zero-is : (s : Bool) → round binary32 s 0 1 ≡ fin s 0 (pos 0)
 unfolding round size units odd
 zero-is s = refl
 
-pub round-0 : (s : Bool) (c : ℕ) → 0 < c → round binary32 s 0 c ≡ fin s 0 (pos 0)
+round-0 : (s : Bool) (c : ℕ) → 0 < c → round binary32 s 0 c ≡ fin s 0 (pos 0)
 round-0 s c C = round-same binary32 s 0 c 0 1 C (lit< tt) (omega arith) ∙ zero-is s
 
 least : T (positive (round binary32 false 1 (2 ^ 149)))
 unfolding round size units odd
 least = tt
 
-pub round-above : (a c : ℕ) → 0 < c → c ≤ a * 2 ^ 149 → T (above (round binary32 false a c))
-round-above a c C h = above-of-le (round binary32 false 1 (2 ^ 149)) (round binary32 false a c) least (round-mono binary32 1 (2 ^ 149) a c (lit< tt) C (le-trans (le-of-eq (one-mul c)) h))
-
 -- a / c is n times 2 ^ -149
-at-least : (a c n : ℕ) → a * 2 ^ 149 ≡ n * c → 0 < a → c ≤ a * 2 ^ 149
-at-least a c zero e h = no-product a (2 ^ 149) h (lit< tt) (e ∙ zero-mul c)
-  where
-    no-product : {X : Type 0} (a l : ℕ) → 0 < a → 0 < l → a * l ≡ 0 → X
-    no-product a l h k e = let p : 0 < a * l = mul-pos h k in absurd (omega arith)
-at-least a c (suc n) e h = le-trans (le-of-eq (sym (one-mul c))) (le-trans (mul-le-mul-right c (suc-le-suc zero-le)) (le-of-eq (sym e)))
+round-above : (a c n : ℕ) → 0 < c → a * 2 ^ 149 ≡ n * c → 0 < a → T (above (round binary32 false a c))
+round-above a c n C e h =
+    let k : 0 < n * c = subst (λ (x : ℕ). 0 < x) e (mul-pos h (lit< tt)) in
+    let l : c ≤ a * 2 ^ 149 = le-trans (le-mul-of-pos-right c (first-pos n c k)) (le-of-eq (mul-comm c n ∙ sym e)) in
+    above-of-le (round binary32 false 1 (2 ^ 149)) (round binary32 false a c) least (round-mono binary32 1 (2 ^ 149) a c (lit< tt) C (le-trans (le-of-eq (one-mul c)) l))
 
 sign-of : (s : Bool) (a c n : ℕ) → 0 < c → a * 2 ^ 149 ≡ n * c → lt 0·0 (round binary32 s a c) ≡ (not s && ltb 0 a)
 sign-of true a c n C e = round-negative a c
 sign-of false zero c n C e = ap (lt 0·0) (round-0 false c C) ∙ unfold lt ofBits in refl
-sign-of false (suc a) c n C e = above-is (round binary32 false (suc a) c) ∙ is-true _ (round-above (suc a) c C (at-least (suc a) c n e (zero-lt-suc a))) ∙ sym (lt-ltb 0 (suc a) (zero-lt-suc a))
+sign-of false (suc a) c n C e = above-is (round binary32 false (suc a) c) ∙ is-true _ (round-above (suc a) c n C e (zero-lt-suc a)) ∙ sym (lt-ltb 0 (suc a) (zero-lt-suc a))
 
 -- ---- a difference of two f32
 
 -- an f32 is a whole number of 2 ^ -149
-abbrev Whole : Float → Type 0
-Whole x = (n : ℕ) × (num x * 2 ^ 149 ≡ n * den x)
+whole : (s : Bool) (m : ℕ) (e : ℤ) → T (fits binary32 (fin s m e)) → (n : ℕ) × (m * up e * 2 ^ 149 ≡ n * down e)
+whole s m e f = (scaled 149 (fin s m e), scaled-exact s m e 149 (lit≤ tt) f .1)
 
-whole-odd : (s : Bool) (q k : ℕ) → Whole (odd 24 s q k 149)
-whole-odd s q k = (q * 2 ^ k, cross (odd 24 s q k 149) (odd-sign 24 s q k 149))
-  where
-    cross : (x : Float) → HasValue x s (q * 2 ^ k) (2 ^ 149) → num x * 2 ^ 149 ≡ q * 2 ^ k * den x
-    cross nan v = absurd v
-    cross (inf t) v = absurd v
-    cross (fin t m e) v = v .1
+sub-mul : (p q r : ℕ) → (p - q) * r ≡ p * r - q * r
+sub-mul p q r = rw (mul-comm (p - q) r, mul-comm p r, mul-comm q r) (mul-sub r p q)
 
-whole-fields : (s : Bool) (x t : ℕ) → Whole (ofFields binary32 s x t)
-unfolding ofFields
-whole-fields s zero t = whole-odd s t 0
-whole-fields s (suc x) t = go (eqb (suc x) 255) (eqb t 0)
-  where
-    go : (a b : Bool) → Whole (cond a (cond b (inf s) nan) (odd 24 s (8388608 + t) x 149))
-    go true true = (0, refl)
-    go true false = (0, refl)
-    go false b = whole-odd s (8388608 + t) x
+above-apart : (a b : ℕ) (t : Bool) → ltb b a ≡ t → ltb 0 (a - b) ≡ t
+above-apart a b true e = let h = ltb-true b a e in lt-ltb 0 (a - b) (omega arith)
+above-apart a b false e = let h = ltb-false b a e in le-ltb 0 (a - b) (omega arith)
 
-whole : (x : Float) → T (fits binary32 x) → Whole x
-unfolding ofBits
-whole x f = let b = toBits binary32 x in subst Whole (ofBits-toBits binary32 x f) (whole-fields (leb 2147483648 b) (b % 2147483648 / 8388608) (b % 8388608))
-
--- so is the difference of A / C and B / C
-module _ (A B C x y : ℕ) (c : 0 < C) (a : A * 2 ^ 149 ≡ x * C) (b : B * 2 ^ 149 ≡ y * C) where
-  apart : (A - B) * 2 ^ 149 ≡ (x - y) * C
-  apart = turned A B (2 ^ 149) ∙ ap (λ (z : ℕ). z - B * 2 ^ 149) a ∙ ap (λ (z : ℕ). x * C - z) b ∙ sym (turned x y C)
-    where
-      turned : (p q r : ℕ) → (p - q) * r ≡ p * r - q * r
-      turned p q r = rw (mul-comm (p - q) r, mul-comm p r, mul-comm q r) (mul-sub r p q)
-
-  over : ltb 0 (A - B) ≡ ltb B A
-  over = go (ltb B A) refl
-    where
-      go : (t : Bool) → ltb B A ≡ t → ltb 0 (A - B) ≡ t
-      go true e = let h = ltb-true B A e in lt-ltb 0 (A - B) (omega arith)
-      go false e = let h = ltb-false B A e in le-ltb 0 (A - B) (omega arith)
+-- ±(A - B) / C, for two numbers of 2 ^ -149
+apart : (A B C x y : ℕ) → 0 < C → A * 2 ^ 149 ≡ x * C → B * 2 ^ 149 ≡ y * C → (s : Bool) → lt 0·0 (round binary32 s (A - B) C) ≡ (not s && ltb B A)
+apart A B C x y c a b s = sign-of s (A - B) C (x - y) c (sub-mul A B (2 ^ 149) ∙ rw (a, b) (sym (sub-mul x y C))) ∙ ap (λ (t : Bool). not s && t) (above-apart A B (ltb B A) refl)
 
 by-signs : (A B C x y : ℕ) → 0 < C → A * 2 ^ 149 ≡ x * C → B * 2 ^ 149 ≡ y * C → (s t : Bool) → lt 0·0 (sum binary32 s A (not t) B C) ≡ below t B s A
 unfolding sum
+by-signs A B C x y c a b false true = sign-of false (A + B) C (x + y) c (add-mul A B (2 ^ 149) ∙ rw (a, b) (sym (add-mul x y C))) ∙ ap (ltb 0) (add-comm A B)
+by-signs A B C x y c a b true false = round-negative (A + B) C
 by-signs A B C x y c a b false false = go (ltb A B) refl
   where
     go : (p : Bool) → ltb A B ≡ p → lt 0·0 (cond p (round binary32 true (B - A) C) (round binary32 false (A - B) C)) ≡ ltb B A
     go true e = let h = ltb-true A B e in round-negative (B - A) C ∙ sym (le-ltb B A (omega arith))
-    go false e = sign-of false (A - B) C (x - y) c (apart A B C x y c a b) ∙ over A B C x y c a b
-by-signs A B C x y c a b false true = sign-of false (A + B) C (x + y) c (add-mul A B (2 ^ 149) ∙ rw (a, b) (sym (add-mul x y C))) ∙ ap (ltb 0) (add-comm A B)
-by-signs A B C x y c a b true false = round-negative (A + B) C
+    go false e = apart A B C x y c a b false
 by-signs A B C x y c a b true true = go (ltb A B) refl
   where
-    clash : (t : Bool) → (not t && t) ≡ false
-    clash true = refl
-    clash false = refl
-
     go : (p : Bool) → ltb A B ≡ p → lt 0·0 (cond p (round binary32 false (B - A) C) (round binary32 (ltb B A) (A - B) C)) ≡ p
-    go true e = sign-of false (B - A) C (y - x) c (apart B A C y x c b a) ∙ over B A C y x c b a ∙ e
-    go false e = sign-of (ltb B A) (A - B) C (x - y) c (apart A B C x y c a b) ∙ rw (over A B C x y c a b) (clash (ltb B A))
+    go true e = apart B A C y x c b a false ∙ e
+    go false e = apart A B C x y c a b (ltb B A) ∙ not-and-self (ltb B A)
 
--- "the difference is above 0" exactly where a is above b
+-- a - b, rounded, is above 0 exactly where a is above b
 pub difference-above : (a b : Float) → T (finite a) → T (finite b) → T (fits binary32 a) → T (fits binary32 b) → lt 0·0 (a ⊖ b) ≡ lt b a
 unfolding lt sub add neg
 difference-above nan b p q f g = absurd p
@@ -143,8 +105,8 @@ difference-above (inf s) b p q f g = absurd p
 difference-above (fin s m e) nan p q f g = absurd q
 difference-above (fin s m e) (inf t) p q f g = absurd q
 difference-above (fin s m e) (fin t n d) p q f g =
-    let v = whole (fin s m e) f in
-    let w = whole (fin t n d) g in
+    let v = whole s m e f in
+    let w = whole t n d g in
     by-signs (m * up e * down d) (n * up d * down e) (down e * down d) (v .0) (w .0) (mul-pos (down-pos e) (down-pos d))
     (mul-right-comm (m * up e) (down d) (2 ^ 149) ∙ rw (v .1) (mul-assoc (v .0) (down e) (down d)))
     (mul-right-comm (n * up d) (down e) (2 ^ 149) ∙ rw (w .1) (mul-assoc (w .0) (down d) (down e)) ∙ ap (λ (z : ℕ). w .0 * z) (mul-comm (down d) (down e))) s t
@@ -163,7 +125,7 @@ finite-within (fin s m e) (inf false) (inf t) p q h k = absurd q
 finite-within (fin s m e) (inf false) (fin t n d) p q h k = no k
 finite-within (fin s m e) (fin t n d) hi p q h k = tt
 
--- with a minus sign, 0 ≤ x is a zero
+-- of 0 ≤ x only a zero has a minus sign
 minus-0 : (s : Bool) (m : ℕ) (e : ℤ) → le 0·0 (fin s m e) ≡ true → s ≡ true → m * up e ≡ 0
 unfolding le lt eq ofBits
 minus-0 false m e h z = no z
@@ -239,26 +201,6 @@ inverse-to-1 x h = go x (from-1-above x h) h
         let N = ltb→lt 0 n k in
         let c : 1 * down d ≤ n * up d * 1 = le→cross 1·0 (fin false n d) one-positive k (subst T (sym h) tt) in
         rw (ne-eqb n 0 (λ q. omega arith)) (is-true _ (subst (λ (z : Float). T (le (round binary32 false (1 * down d) (n * up d * 1)) z)) one-is (round-mono binary32 (1 * down d) (n * up d * 1) 1 1 (mul-pos (mul-pos N (up-pos d)) (lit< tt)) (lit< tt) (omega arith))))
-
--- at least 1 times an f32 above 0 is above 0
-pub product-above : (x y : Float) → T (finite x) → le 1·0 x ≡ true → T (fits binary32 y) → T (above y) → T (above (x ⊗ y))
-unfolding mul ofBits
-product-above x y p h f k = go x y p (from-1-above x h) h f k
-  where
-    go : (x y : Float) → T (finite x) → T (above x) → le 1·0 x ≡ true → T (fits binary32 y) → T (above y) → T (above (x ⊗ y))
-    go nan y p g h f k = absurd p
-    go (inf s) y p g h f k = absurd p
-    go (fin true m e) y p g h f k = absurd g
-    go (fin false m e) nan p g h f k = absurd k
-    go (fin false m e) (inf true) p g h f k = absurd k
-    go (fin false m e) (inf false) p g h f k = let M = ltb→lt 0 m g in rw (ne-eqb m 0 (λ q. omega arith)) tt
-    go (fin false m e) (fin true n d) p g h f k = absurd k
-    go (fin false m e) (fin false n d) p g h f k =
-        let w = whole (fin false n d) f in
-        let c : 1 * down e ≤ m * up e * 1 = le→cross 1·0 (fin false m e) one-positive g (subst T (sym h) tt) in
-        let u : down e ≤ m * up e = omega arith in
-        let v : down d ≤ n * up d * 2 ^ 149 = at-least (n * up d) (down d) (w .0) (w .1) (mul-pos (ltb→lt 0 n k) (up-pos d)) in
-        round-above (m * up e * (n * up d)) (down e * down d) (mul-pos (down-pos e) (down-pos d)) (le-trans (mul-le-mul u v) (le-of-eq (sym (mul-assoc (m * up e) (n * up d) (2 ^ 149)))))
 
 -- ---- a number above 0 cut to a whole one
 

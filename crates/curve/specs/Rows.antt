@@ -1,11 +1,10 @@
 -- What is drawn of the rows of an answer. Assumes nothing.
-use Prim.Native.Nat.{ℕ, zero, suc, _+_, _/_, _%_, min}
+use Prim.Native.Nat.{ℕ, zero, suc, _+_, _/_, _%_, min, max}
 use mathlib.Core.Bool.{Bool, cond, not, _&&_}
 use mathlib.Core.List.{List}
 use lib.Dec.{eqb, ltb}
 use Rattle.rounding.specs.Decimals.{unitsOf}
 use Rattle.job.specs.Layout.{word}
-use Rattle.scale.specs.Scale.{minOf, maxOf}
 use Rattle.view.specs.View.{ofAnswer}
 
 -- neither NaN nor infinite
@@ -18,7 +17,7 @@ shownOf w t = cond (ltb w 2147483648) (min (unitsOf w t) 100000000) 0
 
 -- how many rows; row r's hop length and angle, as bits
 abbrev pub rowsOf : List ℕ → ℕ
-rowsOf answer = minOf (word answer (ofAnswer "rows")) 45
+rowsOf answer = min (word answer (ofAnswer "rows")) 45
 
 abbrev pub hopOf : List ℕ → ℕ → ℕ
 hopOf answer r = word answer (ofAnswer "gdflx" + r)
@@ -40,4 +39,4 @@ highOf answer r = cond (ltb r (rowsOf answer)) (shownOf (angleOf answer r) 1000)
 -- the largest of f 0, f 1, .. up to f (n - 1)
 unfoldable pub largest : (ℕ → ℕ) → ℕ → ℕ
 largest f zero = 0
-largest f (suc n) = maxOf (largest f n) (f n)
+largest f (suc n) = max (largest f n) (f n)

@@ -68,6 +68,9 @@ whole km h = omega arith
 pub point-is : {km : ℕ} {fs : List (List Float)} {hs : List Float} {gcdkm : Float} {k : ℕ} → Accepted km fs hs gcdkm → k ≡ pointOf fs (min km 5) → k ≡ pointOf fs km
 point-is {km} {fs} a e = e ∙ ap (pointOf fs) (whole km (a .few))
 
+pub point-few : {km : ℕ} {fs : List (List Float)} {hs : List Float} {gcdkm : Float} {k : ℕ} → Accepted km fs hs gcdkm → k ≡ pointOf fs (min km 5) → k < 5
+point-few a e = omega (arith, a .counted, a .few, point-is a e)
+
 -- the two ways of an answer
 pub refused-is : (n : ℕ) (m : EsModes) → (n ≡ 0 → ⊥) → noHops n ≡ answerOf n m
 unfolding answerOf

@@ -32,11 +32,11 @@ pointOf fs (suc is) = let k = pointOf fs is in cond (lt 0·0 (middleOf fs k ⊖ 
 abbrev pub emptyHop : EsHop
 emptyHop = record { b = neg 1·0; hn = neg 1·0; hp = neg 1·0; timed = neg 1·0 }
 
--- half the hop's angle at the earth's centre (lines 1493 to 1494)
+-- half the hop's angle at the earth's centre (lines 1493 to 1495)
 unfoldable pub thetOf : Float → Float → Float
 thetOf gcd gp = 0·5 ⊗ (gcd ⊘ gp)
 
--- the take-off angle in radians (lines 1495 to 1497, 1501)
+-- the take-off angle in radians (lines 1496, 1497, 1501)
 unfoldable pub delOf : Float → Float → Float
 delOf hs thet = (PIO2 ⊖ thet) ⊖ atanOf (sinOf thet ⊘ ((1·0 ⊖ cosOf thet) ⊕ (hs ⊘ RZ)))
 
@@ -44,7 +44,7 @@ delOf hs thet = (PIO2 ⊖ thet) ⊖ atanOf (sinOf thet ⊘ ((1·0 ⊖ cosOf thet
 unfoldable pub pathOf : Float → Float → Float → Float → Float
 pathOf hs gp thet del = gp ⊗ (((2·0 ⊗ sinOf thet) ⊗ (RZ ⊕ hs)) ⊘ cosOf del)
 
--- "A hop below amind uses up its slot and leaves the empty values there" (lines 1502 to 1506); else its count, the layer's height, its angle in degrees and its delay in ms (lines 1551, 1554, 1555, 1559)
+-- "A hop below amind uses up its slot and leaves the empty values there" (lines 1503 to 1506); else its count, the layer's height, its angle in degrees and its delay in ms (lines 1551, 1554, 1555, 1559)
 unfoldable pub hopOf : Float → Float → Float → Float → EsHop
 hopOf hs gcd amind gp =
     let thet = thetOf gcd gp in
@@ -57,11 +57,11 @@ hopOf hs gcd amind gp =
 unfoldable pub sdmaxOf : Float → Float
 sdmaxOf hs = (2·0 ⊗ RZ) ⊗ (PIO2 ⊖ asinOf (1·0 ⊘ (1·0 ⊕ (hs ⊘ RZ))))
 
--- the first number of hops that can reach, cut towards zero (line 1483). The Rust cuts to an i32: within the limits it is at least 1, so the sign is nothing (EsmodLaws, `first-hop`)
+-- the first number of hops that can reach, cut towards zero (line 1483). The Rust cuts to an i32: within the limits it is at least 1, so the sign is nothing (EsmodLaws, `from-hop-1`, `ihsrt-signed`)
 unfoldable pub ihsrtOf : Float → Float → ℕ
 ihsrtOf hs gcdkm = toUnsigned 31 ((gcdkm ⊘ sdmaxOf hs) ⊕ 1·0)
 
--- "Two hops at most are tried": a slot's hop, if it is not beyond the second (lines 1484 to 1490)
+-- "Two hops at most are tried": a slot's hop, if it is not beyond the second (lines 1484 to 1487, 1490)
 unfoldable pub slotOf : Float → Float → Float → ℕ → EsHop
 slotOf hs gcd amind ihop = cond (leb ihop 2) (hopOf hs gcd amind (ofInt binary32 (pos ihop))) emptyHop
 

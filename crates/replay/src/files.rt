@@ -29,49 +29,22 @@ pub(crate) fn next(fd: i32, record: &mut [u8]) -> Read {
     }
 }
 
-// What became of the next record.
-enum Turn {
-    Agrees,
-    Differs,
-    End,
-    Broken,
-}
-
-fn turn_of(fd: i32, kind: Kind) -> Turn {
-    let mut record = [0u8; 8192];
-    let n = kinds::size(kind);
-    match next(fd, &mut record[0..n]) {
-        Read::Whole => {
-            if kinds::agrees(kind, &record) {
-                Turn::Agrees
-            } else {
-                Turn::Differs
-            }
-        }
-        Read::End => Turn::End,
-        Read::Broken => Turn::Broken,
-    }
-}
-
 // A proved loop has to end, and nothing says that a file does: no more records are read than these.
 const MOST: u64 = 1_000_000;
 
-pub(crate) fn tally_of(fd: i32, kind: Kind) -> Tally {
+pub(crate) fn tally_of(fd: i32, kind: Kind, r: &mut [u8]) -> Tally {
     let mut agree = 0u64;
     let mut records = 0u64;
     while records < MOST {
-        match turn_of(fd, kind) {
-            Turn::Agrees => {
-                agree += 1;
+        match next(fd, r) {
+            Read::Whole => {
+                agree += kinds::agrees(kind, r) as u64;
                 records += 1;
             }
-            Turn::Differs => {
-                records += 1;
-            }
-            Turn::End => {
+            Read::End => {
                 return tally::of_records(agree, records, false);
             }
-            Turn::Broken => {
+            Read::Broken => {
                 return tally::of_records(agree, records, true);
             }
         }

@@ -17,9 +17,12 @@ use tally::Tally;
 
 // A file's first record, as it is and altered, then the others. One that cannot be opened cannot be read.
 fn file(t: Tally, path: &[u8], kind: Kind) -> Tally {
+    let mut record = [0u8; 8192];
+    let n = kinds::size(kind);
     let fd = os::open_read(path);
-    let one = altered::first(fd, kind);
-    let here = tally::plus(one, files::tally_of(fd, kind));
+    let r = &mut record[0..n];
+    let one = altered::first(fd, kind, r);
+    let here = tally::plus(one, files::tally_of(fd, kind, r));
     libc::close(fd);
     say::line(path, here);
     tally::plus(t, here)

@@ -6,24 +6,17 @@ use super::say;
 use super::tally;
 use super::tally::Tally;
 
-// A job with this word at the byte `at`.
-fn with(job: [u8; 5361], at: usize, w: u32) -> [u8; 5361] {
-    let mut out = job;
-    words::put_word(&mut out, at, w);
-    out
-}
-
 // The sheet's job and a byte more: nang 40, fi's third number 1 at each point.
-fn sheet() -> [u8; 5361] {
+fn sheet(job: &mut [u8]) {
     let one = words::bits(1.0);
-    let a = with([0; 5361], 4, 40);
-    let b = with(a, 8, words::bits(2.0));
-    let c = with(b, 16, words::bits(0.5));
-    let d = with(c, 28, one);
-    let e = with(d, 40, one);
-    let f = with(e, 52, one);
-    let g = with(f, 64, one);
-    with(g, 76, one)
+    words::put_word(job, 4, 40);
+    words::put_word(job, 8, words::bits(2.0));
+    words::put_word(job, 16, words::bits(0.5));
+    words::put_word(job, 28, one);
+    words::put_word(job, 40, one);
+    words::put_word(job, 52, one);
+    words::put_word(job, 64, one);
+    words::put_word(job, 76, one);
 }
 
 // Whether a call gave this number and left this answer.
@@ -50,8 +43,10 @@ fn case(t: Tally, fd: i32, name: &[u8], at: usize, w: u32, length: usize, room: 
     requires { ⌜ (length ≤ 5361) × (room ≤ 1461) ⌝ }
 {
     let mut stored = [0u8; 1464];
-    files::next(fd, &mut stored[0..1464]);
-    let job = with(sheet(), at, w);
+    files::next(fd, &mut stored);
+    let mut job = [0u8; 5361];
+    sheet(&mut job);
+    words::put_word(&mut job, at, w);
     let mut answer = [jobs::UNWRITTEN; 1461];
     let number = job::run(&job[0..length], &mut answer[0..room]);
     let agrees = is_stored(number, answer, stored);

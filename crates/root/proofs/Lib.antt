@@ -1,6 +1,5 @@
 pub mod NearestRootLaws
 pub mod MidpointLaws
-pub mod ScaledLaws
 pub mod RootLaws
 pub mod Floats
 pub mod Squares

@@ -12,7 +12,7 @@ use lib.Ieee.Exact.{HasValue}
 use lib.Ieee.Positive.{positive, first-pos, positive-of-value, value-pos}
 use Rattle.root.proofs.NearestRootLaws.{NearestRoot, nearest-root, root-range}
 use Rattle.root.proofs.MidpointLaws.{square, root-over, root-under}
-use Rattle.root.proofs.ScaledLaws.{spread, scaled-of-value, scaled-exact, scaled-below, units-fit, units-value, same-value}
+use Rattle.arith.proofs.ScaledLaws.{spread, scaled-of-value, scaled-exact, scaled-below, units-fit, units-value, same-value}
 use Rattle.root.specs.Asked.{Nearest}
 use Rattle.root.specs.Root.{nearestRoot, rootOf, sqrtOf}
 use Rattle.arith.specs.Floats.{scaled}

@@ -1,16 +1,9 @@
 -- The scales of the drawing (the drawing's page): lengths in 0.1 km, angles in 0.001 deg, places in 0.1 px. Assumes nothing.
-use Prim.Native.Nat.{ℕ, zero, suc, _+_, _-_, _*_, _/_, _<_, _≤_}
+use Prim.Native.Nat.{ℕ, zero, suc, _+_, _-_, _*_, _/_, _<_, _≤_, min, max}
 use mathlib.Core.Path.{_≡_}
 use mathlib.Core.Bool.{Bool, cond, _&&_}
-use lib.Dec.{leb, ltb}
+use lib.Dec.{ltb}
 use Rattle.scale.specs.declared.Axis.{Axis}
-
--- the smaller and the larger of two
-abbrev pub minOf : ℕ → ℕ → ℕ
-minOf a b = cond (leb a b) a b
-
-abbrev pub maxOf : ℕ → ℕ → ℕ
-maxOf a b = cond (leb a b) b a
 
 -- 1, 2, 5, 10, 20, 50, ..: "1, 2, 5 times a power of ten"
 unfoldable pub stepAt : ℕ → ℕ
@@ -36,7 +29,7 @@ pub record Marked (unit most top : ℕ) (a : Axis) : Type 0 where
 
 -- "Across to the longest row or the asked length, whichever is more, and 2 % over"; 1 km at least
 abbrev pub over : ℕ → ℕ
-over far = maxOf far 10 + far / 50
+over far = max far 10 + far / 50
 
 -- "where the asked length is more than 1.5 times the longest row": never where no row is longer than 0
 abbrev pub beyondOf : ℕ → ℕ → Bool
@@ -44,15 +37,15 @@ beyondOf far asked = ltb 0 far && ltb (3 * far) (2 * asked)
 
 -- where the axis of lengths has to reach
 abbrev pub acrossOf : ℕ → ℕ → ℕ
-acrossOf far asked = over (cond (beyondOf far asked) far (maxOf far asked))
+acrossOf far asked = over (cond (beyondOf far asked) far (max far asked))
 
 -- "Up to the highest .. plus 0.5, 10 at least and 90 at most"
 abbrev pub upOf : ℕ → ℕ
-upOf high = minOf (maxOf high 9500 + 500) 90000
+upOf high = min (max high 9500 + 500) 90000
 
 -- width * g / end, rounded once, where g is at most the end
 abbrev pub partOf : ℕ → ℕ → ℕ → ℕ
-partOf width g end = (width * (2 * minOf g end) + end) / (2 * end)
+partOf width g end = (width * (2 * min g end) + end) / (2 * end)
 
 -- the plot: 640 to 6400 across, 1260 (the top) to 5440
 abbrev pub axOf : ℕ → ℕ → ℕ
@@ -63,8 +56,8 @@ ayOf t end = 5440 - partOf 4180 t end
 
 -- "19 px apart at least": a ring stands at its dot, or so far above the one below it on its side
 abbrev pub liftedOf : ℕ → ℕ → ℕ
-liftedOf last y = minOf y (last - 190)
+liftedOf last y = min y (last - 190)
 
 -- and leaves room below the plot's top for itself and for the rings above it, 5 at most
 abbrev pub ringOf : ℕ → ℕ → ℕ
-ringOf y above = maxOf y (1350 + 190 * minOf above 5)
+ringOf y above = max y (1350 + 190 * min above 5)

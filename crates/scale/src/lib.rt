@@ -1,8 +1,8 @@
 // The scales of the drawing: where a length and an angle stand, and the steps at which an axis is marked.
 // Lengths in 0.1 km, angles in 0.001 deg, places in 0.1 px.
 ghost use mathlib.Core.Path.{_≡_};
-ghost use Prim.Native.Nat.{_+_, _-_, _*_, _/_, _<_, _≤_};
-ghost use Rattle.scale.specs.Scale.{minOf, maxOf, stepAt, Least, Marked, beyondOf, acrossOf, upOf, partOf, axOf, ayOf, liftedOf, ringOf};
+ghost use Prim.Native.Nat.{_+_, _-_, _*_, _/_, _<_, _≤_, min, max};
+ghost use Rattle.scale.specs.Scale.{stepAt, Least, Marked, beyondOf, acrossOf, upOf, partOf, axOf, ayOf, liftedOf, ringOf};
 
 // The plot's edges.
 pub const LEFT: u32 = 640;
@@ -48,7 +48,7 @@ const STEPS: [u32; 21] = [
 ];
 
 pub fn min(a: u32, b: u32) -> u32
-    ensures { λ r. ⌜ r ≡ minOf a b ⌝ }
+    ensures { λ r. ⌜ r ≡ min a b ⌝ }
 {
     if a <= b {
         return a;
@@ -57,7 +57,7 @@ pub fn min(a: u32, b: u32) -> u32
 }
 
 pub fn max(a: u32, b: u32) -> u32
-    ensures { λ r. ⌜ r ≡ maxOf a b ⌝ }
+    ensures { λ r. ⌜ r ≡ max a b ⌝ }
 {
     if a <= b {
         return b;
@@ -121,7 +121,7 @@ fn marked(unit: u32, most: u32, top: u32) -> Axis
 
 fn over(far: u32) -> u32
     requires { ⌜ far ≤ 100000000 ⌝ }
-    ensures { λ r. ⌜ r ≡ maxOf far 10 + far / 50 ⌝ }
+    ensures { λ r. ⌜ r ≡ max far 10 + far / 50 ⌝ }
     ensures { λ r. ⌜ r ≤ 102000000 ⌝ }
 {
     max(far, 10) + far / 50
@@ -136,7 +136,7 @@ pub fn beyond(far: u32, asked: u32) -> bool
 
 // The axis of lengths: `far` is the longest row's, `asked` the asked one.
 pub fn across(far: u32, asked: u32) -> Axis
-    ensures { λ r. ⌜ Marked 10 8 (acrossOf (minOf far 100000000) (minOf asked 100000000)) r ⌝ }
+    ensures { λ r. ⌜ Marked 10 8 (acrossOf (min far 100000000) (min asked 100000000)) r ⌝ }
 {
     let far = min(far, LONGEST);
     let asked = min(asked, LONGEST);
@@ -148,7 +148,7 @@ pub fn across(far: u32, asked: u32) -> Axis
 
 // The axis of angles: `high` is the highest to be shown.
 pub fn up(high: u32) -> Axis
-    ensures { λ r. ⌜ Marked 1000 10 (upOf (minOf high 90000)) r ⌝ }
+    ensures { λ r. ⌜ Marked 1000 10 (upOf (min high 90000)) r ⌝ }
 {
     let top = max(min(high, 90_000), 9_500) + 500;
     marked(1000, 10, min(top, 90_000))
@@ -228,7 +228,7 @@ pub fn ring(y: u32, above: u32) -> u32
 
 // The product, or the largest number.
 pub fn times(a: u32, b: u32) -> u32
-    ensures { λ r. ⌜ r ≡ minOf (a * b) 4294967295 ⌝ }
+    ensures { λ r. ⌜ r ≡ min (a * b) 4294967295 ⌝ }
 {
     let n = (a as u64) * (b as u64);
     if n <= 0xffff_ffff {

@@ -30,6 +30,8 @@
 //! # Ok::<(), Box<dyn std::error::Error>>(())
 //! ```
 //!
+//! [`Es`] asks for the rays by sporadic E of a path.
+//!
 //! Names are those of the job's words (docs/JOB.md). The library allocates nothing, never panics and
 //! always ends; `ray_job` takes some 8 kB of stack. The floating-point mode has to be the usual one,
 //! which Rust asks for anyway. For x86-64 alone.
@@ -40,12 +42,14 @@ pub mod angles;
 mod answer;
 mod builder;
 mod call;
+mod es;
 mod job;
 pub mod layout;
 mod refusal;
 
 pub use answer::{Answer, Layer, Ray, Row, Skip, Slot};
 pub use builder::{Field, JobBuilder, OutOfRange, Range};
+pub use es::{Es, EsHop, EsModes, EsPoint};
 pub use job::{Job, Oblique, Table};
 pub use refusal::Refusal;
 

@@ -1,9 +1,9 @@
-//! Why a job is refused.
+//! Why a job, or a path by sporadic E, is refused.
 
 use std::error::Error;
 use std::fmt;
 
-/// The number of the first limit that a job breaks, with its sentence.
+/// The number of the first limit that a job or [`Es`](crate::Es) breaks, with its sentence.
 ///
 /// ```
 /// use ray::{Job, Refusal};
@@ -26,7 +26,7 @@ macro_rules! refusals {
                 pub const $name: Refusal = Refusal($number);
             )+
 
-            /// All of them, by number.
+            /// All of them, by number: 1 to 10 are a job's; 5, 6 and 14 sporadic E's.
             pub const ALL: &[Refusal] = &[$(Refusal::$name),+];
 
             /// What the limit says.
@@ -51,6 +51,7 @@ refusals! {
     FI 8, "a critical frequency of the point is not within its range";
     TABLE 9, "a value of the tables is not within its range";
     IFOB 10, "an entry of the oblique table, ifob, is not within 0 to 99999 kHz";
+    ES 14, "km, fs, hs, gcd, gcdkm or fsdead is not within its range";
 }
 
 impl Refusal {

@@ -83,6 +83,7 @@ fn main() {
     {
         beside_the_rust();
         walks_and_searches();
+        sporadic_e();
         jobs();
     }
     #[cfg(not(oracle))]
@@ -216,6 +217,48 @@ fn walks_and_searches() {
     ]);
     print("fdist, after a walk", ours, as_it_comes);
     print("  the led Rust", led, as_it_comes);
+}
+
+/// esmod on new jobs: the lines of the Rust that make the geometry, with the same limits and without
+/// any; then the whole Rust, which makes losses besides, over numbers and antennas that cost nothing.
+#[cfg(oracle)]
+fn sporadic_e() {
+    use host::entries::{EsJob, Zon};
+    use host::esmod::{adversarial, coast, Kind};
+    use host::oracle::{self, as_it_comes, led, Losses, MufHour, NoiseResult, PassCtx, Variant};
+
+    let losses = Losses::read(&mut std::iter::repeat(1.0f32.to_bits()));
+    let (muf, noise) = (MufHour::from(&losses), NoiseResult::from(&losses));
+    for (name, kind) in [("coast-like", coast as Kind), ("adversarial", adversarial)] {
+        let mut prng = Prng::new(1);
+        let jobs: Vec<EsJob> = (0..INPUTS).map(|_| kind(&mut prng)).collect();
+        let contexts: Vec<PassCtx> = jobs.iter().map(|job| PassCtx::new(job, &losses)).collect();
+        let [mut as_it_comes_zon, mut led_zon] =
+            [(); 2].map(|()| oracle::Zon::from(Zon::from_words(prng.words())));
+        let whole = |variant: &Variant, zon: &mut oracle::Zon, i: usize| {
+            let EsJob { freq, fsdead, .. } = jobs[i];
+            (variant.esmod)(black_box(zon), black_box(&contexts[i]), &muf, &noise, freq, fsdead);
+        };
+        let [ours, rust, unchecked, whole_rust, whole_led] = race([
+            &mut |i| {
+                let EsJob { km, fs, hs, gcd, gcdkm, amind, freq, fsdead } = black_box(&jobs[i]);
+                let (gcd, gcdkm, amind) = (*gcd, *gcdkm, *amind);
+                black_box(entries::esmod(*km, fs, hs, gcd, gcdkm, amind, *freq, *fsdead));
+            },
+            &mut |i| {
+                black_box(peer::esmod(black_box(&jobs[i])));
+            },
+            &mut |i| {
+                black_box(peer::unchecked_esmod(black_box(&jobs[i])));
+            },
+            &mut |i| whole(&as_it_comes::VARIANT, &mut as_it_comes_zon, i),
+            &mut |i| whole(&led::VARIANT, &mut led_zon, i),
+        ]);
+        print(&format!("esmod, {name}"), ours, rust);
+        print("  Rust without limits", ours, unchecked);
+        print("  with its losses", ours, whole_rust);
+        print("  the led Rust", whole_led, whole_rust);
+    }
 }
 
 #[cfg(oracle)]

@@ -1,5 +1,5 @@
-//! Checks for when minutes do not matter: sweeps over all 2^32 f32, the exact bounds, 10^7 walks
-//! and 10^7 jobs.
+//! Checks for when minutes do not matter: sweeps over all 2^32 f32, the exact bounds, 10^7 walks,
+//! 10^7 jobs and 10^7 paths by sporadic E.
 
 use host::angles::{named, Function, FUNCTIONS};
 use host::{bounds, entries, floats};
@@ -133,9 +133,18 @@ fn jobs() -> ExitCode {
     ExitCode::SUCCESS
 }
 
+/// Each kind of esmod's jobs: more than 10^7 in all.
+#[cfg(oracle)]
+fn sporadic_e() -> ExitCode {
+    for (name, kind) in host::esmod::KINDS {
+        batches(name, |seed| host::esmod::check_jobs(&host::esmod::ours, seed, 100_000, kind));
+    }
+    ExitCode::SUCCESS
+}
+
 const USAGE: &str = "usage: sweep sqrt | normal-curve | exact | page FUNCTION
              sin | cos | asin | acos | atan
-             fnorml | findf | job (need the Rust source)";
+             fnorml | findf | job | esmod (need the Rust source)";
 
 fn main() -> ExitCode {
     let start = Instant::now();
@@ -149,6 +158,8 @@ fn main() -> ExitCode {
         (["findf"], _) => walks(),
         #[cfg(oracle)]
         (["job"], _) => jobs(),
+        #[cfg(oracle)]
+        (["esmod"], _) => sporadic_e(),
         (["normal-curve"], _) => normal_curve(),
         ([_], Some(f)) => angle(f),
         (["page", _], Some(f)) => compare(f.ours, f.page),

@@ -5,6 +5,8 @@ mod allmodes;
 #[cfg(oracle)]
 mod by_reference;
 #[cfg(oracle)]
+mod esmod;
+#[cfg(oracle)]
 mod fdist;
 #[cfg(oracle)]
 mod findf;

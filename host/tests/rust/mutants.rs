@@ -1,16 +1,16 @@
-//! The comparisons find each slip of document 01's "Where a porter slips" and each of its "Versions
-//! that earn nothing": they are put in the library's place, and the very checks that the library
-//! passes must find a difference.
+//! The comparisons find each slip of document 01's "Where a porter slips", each of its "Versions that
+//! earn nothing" and slips of order 1: they are put in the library's place, and the very checks that
+//! the library passes must find a difference.
 
 use host::demand;
-use host::entries::{FindfJob, Reflectrix};
+use host::entries::{EsJob, EsModes, FindfJob, Reflectrix};
 use host::findf::Walk;
 use host::job::{self, adversarial, check_jobs, realistic, Answer, Call, Job, KINDS};
 use host::limits;
 use host::oracle::{self, Variant, VARIANTS};
 use host::prng::Prng;
 use host::tally::Tally;
-use host::{fdist, findf};
+use host::{esmod, fdist, findf};
 use std::cell::Cell;
 
 const JOBS: u64 = 10_000;
@@ -77,7 +77,8 @@ fn cleared_columns_are_found_on_used_reflectrices() {
 #[test]
 fn no_variant_is_left_out() {
     let right = ["as_it_comes", "led", "counted", "counted_as_it_comes"];
-    let slips = SLIPS.iter().chain(CLEARED.map(|(slip, _)| slip)).map(|slip| slip.name);
+    let slips = SLIPS.iter().chain(CLEARED.map(|(slip, _)| slip)).chain(&ES_SLIPS);
+    let slips = slips.map(|slip| slip.name);
     let known: Vec<_> = right.into_iter().chain(slips).collect();
     assert_eq!(VARIANTS.len(), known.len());
     assert!(VARIANTS.iter().all(|variant| known.contains(&variant.name)), "{known:?}");
@@ -244,4 +245,106 @@ fn demand_3_alone_finds_what_breaks_it() {
     assert!(demand_3_finds(|_, answer| answer.fvmod = answer.fvmod.map(f32::next_up)));
     assert!(demand_3_finds(|_, answer| answer.afmod = answer.afmod.map(f32::next_up)));
     assert!(demand_3_finds(|_, answer| answer.itmod = answer.itmod.map(|layer| layer + 1)));
+}
+
+/// What esmod's comparison finds in a call, on jobs of all kinds.
+fn found_in_esmod(call: &esmod::Call) -> Option<String> {
+    esmod::KINDS.iter().find_map(|(_, kind)| esmod::check_jobs(call, 64, JOBS, *kind).err())
+}
+
+/// The led esmod, with its limits.
+fn right_esmod(job: &EsJob) -> EsModes {
+    esmod::call_of(&oracle::led::VARIANT, job)
+}
+
+const ES_SLIPS: [Variant; 8] = [
+    oracle::largest_fs::VARIANT,
+    oracle::last_of_equals::VARIANT,
+    oracle::hp_of_point_0::VARIANT,
+    oracle::slot_given_back::VARIANT,
+    oracle::amind_not_reached::VARIANT,
+    oracle::fsdead_passed::VARIANT,
+    oracle::path_of_one_hop::VARIANT,
+    oracle::three_hops::VARIANT,
+];
+
+#[test]
+fn each_slip_of_esmod_is_found() {
+    assert_eq!(found_in_esmod(&right_esmod), None);
+    for slip in &ES_SLIPS {
+        let found = found_in_esmod(&|job| esmod::call_of(slip, job));
+        let found = found.unwrap_or_else(|| panic!("{} is not found", slip.name));
+        println!("{}: {found}", slip.name);
+    }
+}
+
+/// Says 14 where 6 is due.
+fn tests_sporadic_e_before_amind(job: &EsJob) -> EsModes {
+    let mended = EsJob { amind: 0.0, ..*job };
+    match (limits::esmod(job), limits::esmod(&mended)) {
+        (6, 14) => right_esmod(&mended),
+        _ => right_esmod(job),
+    }
+}
+
+fn checks_uncounted_points(job: &EsJob) -> EsModes {
+    match (limits::esmod(job), limits::esmod(&EsJob { km: 5, ..*job })) {
+        (0, 14) => esmod::Slots::empty().answer(14),
+        _ => right_esmod(job),
+    }
+}
+
+fn checks_the_middle_fs_alone(job: &EsJob) -> EsModes {
+    let fs = job.fs.map(|[_, middle, _]| [middle; 3]);
+    right_esmod(&EsJob { fs, ..*job })
+}
+
+fn takes_gcdkm_up_to_20000(job: &EsJob) -> EsModes {
+    match limits::esmod(job) {
+        0 if job.gcdkm > 20000.0 => esmod::Slots::empty().answer(14),
+        _ => right_esmod(job),
+    }
+}
+
+/// Counts by the low word of km.
+fn cuts_km_to_a_word(job: &EsJob) -> EsModes {
+    right_esmod(&EsJob { km: job.km as u32 as usize, ..*job })
+}
+
+/// Refuses as it should, but with zeros in the slots.
+fn leaves_zeros_in_a_refused_answer(job: &EsJob) -> EsModes {
+    match limits::esmod(job) {
+        0 => right_esmod(job),
+        refusal => esmod::Slots::zeros().answer(refusal),
+    }
+}
+
+/// Leaves slot 5 empty where slot 4 is.
+fn ends_at_an_empty_slot_4(job: &EsJob) -> EsModes {
+    let right = right_esmod(job);
+    match esmod::Slots::from(right).hops {
+        [0, _] => esmod::Slots::empty().answer(right.refusal),
+        _ => right,
+    }
+}
+
+/// Such a call by its name.
+type EsVersion = (&'static str, fn(&EsJob) -> EsModes);
+
+const ES_OTHERS: [EsVersion; 7] = [
+    ("tests limit 14 before amind", tests_sporadic_e_before_amind),
+    ("checks uncounted points", checks_uncounted_points),
+    ("checks the middle fs alone", checks_the_middle_fs_alone),
+    ("takes gcdkm up to 20000", takes_gcdkm_up_to_20000),
+    ("cuts km to a word", cuts_km_to_a_word),
+    ("leaves zeros in a refused answer", leaves_zeros_in_a_refused_answer),
+    ("ends at an empty slot 4", ends_at_an_empty_slot_4),
+];
+
+#[test]
+fn other_wrong_versions_of_esmod_are_found() {
+    for (name, call) in ES_OTHERS {
+        let found = found_in_esmod(&call).unwrap_or_else(|| panic!("{name}: is not found"));
+        println!("{name}: {found}");
+    }
 }

@@ -2,7 +2,7 @@ use mathlib.Core.Path.{sym, ap, _∙_}
 use native.Mathlib.Omega.{arith}
 use Rattle.limits.proofs.CheckedLaws.{within, above, number-is}
 use Rattle.esmod.specs.Esmod.{noHops, esmodOf}
-use Rattle.esmod.proofs.Accepted.{passed, point-is, refused-is, accepted-is}
+use Rattle.esmod.proofs.Accepted.{passed, point-is, point-few, refused-is, accepted-is}
 use borrow.Author.Needs.{needs}
 use Rattle.esmod.proofs.esmod.Statement.{statement}
 use Rattle.esmod.proofs.esmod.Tie as tie
@@ -37,26 +37,22 @@ point-requires c κs = search needs
 
 mul-modes : tie.Need-mul-modes
 mul-modes c =
-    let a = passed _ _ _ _ _ _ _ _ (c .before .before .before .before .before .broken-limit .ensures) (c .before .before .before .before .checked-by .ensures) (c .before .before .enum-told .given .1) in
-    omega (arith, a .counted, a .few, point-is a (c .point .ensures))
+    omega (arith, point-few (passed _ _ _ _ _ _ _ _ (c .before .before .before .before .before .broken-limit .ensures) (c .before .before .before .before .checked-by .ensures) (c .before .before .enum-told .given .1)) (c .point .ensures))
 
 index-1-modes : tie.Need-index-1-modes
 index-1-modes c =
-    let a = passed _ _ _ _ _ _ _ _ (c .before .before .before .before .before .broken-limit .ensures) (c .before .before .before .before .checked-by .ensures) (c .before .before .enum-told .given .1) in
-    omega (arith, a .counted, a .few, point-is a (c .point .ensures))
+    point-few (passed _ _ _ _ _ _ _ _ (c .before .before .before .before .before .broken-limit .ensures) (c .before .before .before .before .checked-by .ensures) (c .before .before .enum-told .given .1)) (c .point .ensures)
 
 index-2-modes : tie.Need-index-2-modes
 index-2-modes c = search needs
 
 mul-modes-2 : tie.Need-mul-modes-2
 mul-modes-2 c =
-    let a = passed _ _ _ _ _ _ _ _ (c .before .before .before .before .before .before .broken-limit .ensures) (c .before .before .before .before .before .checked-by .ensures) (c .before .before .before .enum-told .given .1) in
-    omega (arith, a .counted, a .few, point-is a (c .before .point .ensures))
+    omega (arith, point-few (passed _ _ _ _ _ _ _ _ (c .before .before .before .before .before .before .broken-limit .ensures) (c .before .before .before .before .before .checked-by .ensures) (c .before .before .before .enum-told .given .1)) (c .before .point .ensures))
 
 array-read-modes : tie.Need-array-read-modes
 array-read-modes c =
-    let a = passed _ _ _ _ _ _ _ _ (c .before .before .before .before .before .before .broken-limit .ensures) (c .before .before .before .before .before .checked-by .ensures) (c .before .before .before .enum-told .given .1) in
-    omega (arith, a .counted, a .few, point-is a (c .before .point .ensures))
+    point-few (passed _ _ _ _ _ _ _ _ (c .before .before .before .before .before .before .broken-limit .ensures) (c .before .before .before .before .before .checked-by .ensures) (c .before .before .before .enum-told .given .1)) (c .before .point .ensures)
 
 modes-requires : tie.Need-modes-requires
 modes-requires c κs =

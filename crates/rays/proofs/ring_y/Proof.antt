@@ -1,6 +1,3 @@
-use Prim.Native.Nat.{ℕ, _≤_}
-use mathlib.Core.Path.{subst, sym}
-use Rattle.scale.proofs.ScaleLaws.{min-end}
 use borrow.Author.Needs.{needs}
 use Rattle.rays.proofs.ring_y.Statement.{statement}
 use Rattle.rays.proofs.ring_y.Tie as tie
@@ -18,7 +15,7 @@ min-requires : tie.Need-min-requires
 min-requires c κs = search needs
 
 returns : tie.Need-returns
-returns c = subst (λ (n : ℕ). n ≤ 5350) (sym (c .min .ensures)) (min-end (c .before .ring .result) 5350)
+returns c = search needs
 
 pub ring-y-spec : {M : Type 1} → statement M
 ring-y-spec =

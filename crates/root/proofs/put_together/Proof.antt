@@ -11,7 +11,7 @@ use lib.Dec.{T}
 use lib.Ieee.{binary32, units, ofBits, nanBits}
 use lib.Ieee.Bits.{nanBits-above, ofBits-fits}
 use lib.Ieee.Exact.{HasValue}
-use Rattle.root.proofs.ScaledLaws.{units-fit, units-value, same-value}
+use Rattle.arith.proofs.ScaledLaws.{units-fit, units-value, same-value}
 use Rattle.root.proofs.Floats.{normal-value}
 use Rattle.root.proofs.put_together.Statement.{statement}
 use Rattle.root.proofs.put_together.Tie as tie

@@ -17,7 +17,7 @@ use lib.Ieee.Fits.{up-pos, kept-lt}
 use lib.Ieee.Positive.{positive, value-pos}
 use Rattle.root.specs.Root.{sqrtOf}
 use Rattle.arith.specs.Floats.{scaled}
-use Rattle.root.proofs.ScaledLaws.{scaled-exact, scaled-below, bits-of}
+use Rattle.arith.proofs.ScaledLaws.{scaled-exact, scaled-below, bits-of}
 use Rattle.root.proofs.Floats.{number}
 use Rattle.root.proofs.sqrt.Statement.{statement}
 use Rattle.root.proofs.sqrt.Tie as tie

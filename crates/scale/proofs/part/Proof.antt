@@ -1,20 +1,17 @@
 -- `scale::part` meets its contract. Assumes nothing.
 use borrow.Author.Needs.{needs}
-use Prim.Native.Nat.{ℕ, _+_, _*_, _/_, _≤_}
-use mathlib.Core.Path.{_≡_, ap, sym, subst, _∙_}
+use Prim.Native.Nat.{ℕ, _+_, _*_, _/_, min}
+use mathlib.Core.Path.{ap, sym, _∙_}
 use native.Mathlib.Omega.{arith}
 use native.Mathlib.Nat.{div-zero, mul-le-mul}
-use Rattle.scale.specs.Scale.{minOf}
-use Rattle.scale.proofs.ScaleLaws.{min-end, part-inside}
+use Rattle.scale.proofs.ScaleLaws.{part-inside}
 use Rattle.scale.proofs.part.Statement.{statement}
 use Rattle.scale.proofs.part.Tie as tie
-use Rattle.scale.proofs.part.Reads as reads
-use Rattle.scale.proofs.part.Lts as lts
 
 returns : tie.Need-returns
 returns c = (
-  sym (ap (λ (e : ℕ). (c .before .args .width * (2 * minOf (c .before .args .g) (c .before .args .end)) + c .before .args .end) / (2 * e)) (c .if1 .taken)
-      ∙ div-zero (c .before .args .width * (2 * minOf (c .before .args .g) (c .before .args .end)) + c .before .args .end)),
+  sym (ap (λ (e : ℕ). (c .before .args .width * (2 * min (c .before .args .g) (c .before .args .end)) + c .before .args .end) / (2 * e)) (c .if1 .taken)
+      ∙ div-zero (c .before .args .width * (2 * min (c .before .args .g) (c .before .args .end)) + c .before .args .end)),
   omega arith,
 )
 
@@ -40,12 +37,12 @@ div-result : tie.Need-div-result
 div-result c = search needs
 
 cast-result : tie.Need-cast-result
-cast-result c = omega (arith, part-inside (c .before .before .args .width) (c .min .result) (c .before .before .args .end) (subst (λ (m : ℕ). m ≤ c .before .before .args .end) (sym (c .min .ensures)) (min-end (c .before .before .args .g) (c .before .before .args .end))) (search needs))
+cast-result c = omega (arith, part-inside (c .before .before .args .width) (c .min .result) (c .before .before .args .end) (omega arith) (search needs))
 
 returns-2 : tie.Need-returns-2
 returns-2 c = (
   ap (λ (m : ℕ). (c .before .before .args .width * (2 * m) + c .before .before .args .end) / (2 * c .before .before .args .end)) (c .min .ensures),
-  part-inside (c .before .before .args .width) (c .min .result) (c .before .before .args .end) (subst (λ (m : ℕ). m ≤ c .before .before .args .end) (sym (c .min .ensures)) (min-end (c .before .before .args .g) (c .before .before .args .end))) (search needs),
+  part-inside (c .before .before .args .width) (c .min .result) (c .before .before .args .end) (omega arith) (search needs),
 )
 
 pub part-spec : {M : Type 1} → statement M

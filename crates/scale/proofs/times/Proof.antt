@@ -1,7 +1,5 @@
-use Prim.Native.Nat.{ℕ}
 use native.Mathlib.Omega.{arith}
 use native.Mathlib.Nat.{mul-le-mul}
-use borrow.Author.Tests.{le-leb, lt-leb}
 use borrow.Author.Needs.{needs}
 use Rattle.scale.proofs.times.Statement.{statement}
 use Rattle.scale.proofs.times.Tie as tie
@@ -13,10 +11,10 @@ cast-result : tie.Need-cast-result
 cast-result c = search needs
 
 returns : tie.Need-returns
-returns c = simp (le-leb _ _ (c .if1 .taken))
+returns c = search needs
 
 returns-2 : tie.Need-returns-2
-returns-2 c = simp (lt-leb _ _ (c .if1 .left))
+returns-2 c = search needs
 
 pub times-spec : {M : Type 1} → statement M
 times-spec = tie.close (tie.spec mul-n cast-result returns returns-2)
