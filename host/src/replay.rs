@@ -6,6 +6,7 @@ use crate::entries::{
 use crate::job::{self, Answer, Job};
 use crate::prng::Prng;
 use crate::record::{Numbers, Record as Fields};
+use crate::samples::EsFile;
 use crate::{esmod, fdist, findf, floats, limits, oracle, page};
 use std::f32::consts::{FRAC_PI_2, PI};
 use std::mem::offset_of;
@@ -210,9 +211,9 @@ fn fdist_file() -> File {
 fn esmod_record(job: EsJob) -> Record {
     let EsModes { refusal, slot4, slot5 } = esmod::call_of(&oracle::led::VARIANT, &job);
     let EsJob { km, fs, hs, gcd, gcdkm, amind, freq, fsdead } = job;
-    let points = start().word(km as u32).floats(fs.as_flattened()).floats(&hs);
+    let file = EsFile { km: km as u32, fs, hs, gcd, gcdkm, amind, freq, fsdead };
     Record {
-        arguments: points.floats(&[gcd, gcdkm, amind, freq, fsdead]),
+        arguments: start().bytes(&file.bytes()),
         answer: start().word(refusal).fields(&slot4).fields(&slot5),
     }
 }
