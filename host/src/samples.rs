@@ -1,4 +1,4 @@
-//! The sample jobs of jobs/, made from layer heights.
+//! The sample jobs of jobs/, made from layer heights, and the sample files of `ray es`.
 //!
 //! A layer is a parabola of electron density. The 30 sounding frequencies stand where the
 //! engine's ionogram has them, and the oblique table is by the engine's own formula.
@@ -323,6 +323,109 @@ pub fn samples() -> Vec<Sample> {
     ]
 }
 
+/// The file of `ray es`: the words of a call of esmod, in the order of `ray help`.
+#[derive(Clone, Copy, Debug)]
+pub struct EsFile {
+    pub km: u32,
+    pub fs: [[f32; 3]; 5],
+    pub hs: [f32; 5],
+    pub gcd: f32,
+    pub gcdkm: f32,
+    pub amind: f32,
+    pub freq: f32,
+    pub fsdead: f32,
+}
+
+impl EsFile {
+    pub fn bytes(&self) -> Vec<u8> {
+        let EsFile { km, fs, hs, gcd, gcdkm, amind, freq, fsdead } = *self;
+        let numbers = [fs.as_flattened(), &hs, &[gcd, gcdkm, amind, freq, fsdead]].concat();
+        let words = [km].into_iter().chain(numbers.into_iter().map(f32::to_bits));
+        words.flat_map(u32::to_le_bytes).collect()
+    }
+}
+
+/// A sample file of `ray es`: which of the slots 4 and 5 have a ray, or the refusal.
+pub struct EsSample {
+    pub name: &'static str,
+    pub shows: &'static str,
+    pub expected: Result<[bool; 2], u32>,
+    pub words: EsFile,
+}
+
+impl EsSample {
+    /// The file of jobs/.
+    pub fn file(&self) -> String {
+        format!("{}.es", self.name)
+    }
+
+    /// The line of jobs/README.md.
+    fn line(&self) -> String {
+        let expected = match self.expected {
+            Ok([true, true]) => "rays in slots 4 and 5".into(),
+            Ok([true, false]) => "a ray in slot 4".into(),
+            Ok([false, true]) => "a ray in slot 5".into(),
+            Ok([false, false]) => "no ray".into(),
+            Err(number) => format!("refused, limit {number}"),
+        };
+        format!("| `{}` | {} | {expected} |\n", self.file(), self.shows)
+    }
+}
+
+/// A path of three points over the sea in July; the two points behind them are not counted.
+pub fn summer() -> EsFile {
+    let fs = [[4.1, 6.8, 9.9], [3.6, 5.9, 9.0], [4.4, 7.4, 10.6], [0.0; 3], [0.0; 3]];
+    let hs = [105.0, 110.0, 107.5, 0.0, 0.0];
+    let gcdkm = 1450.0;
+    let gcd = gcdkm / 6370.0;
+    EsFile { km: 3, fs, hs, gcd, gcdkm, amind: 3.0, freq: 28.2, fsdead: 2.7 }
+}
+
+/// All samples of `ray es`, in the order of jobs/README.md.
+pub fn es_samples() -> Vec<EsSample> {
+    let sample = |name, shows, expected, words| EsSample { name, shows, expected, words };
+    let with = |change: &dyn Fn(&mut EsFile)| {
+        let mut file = summer();
+        change(&mut file);
+        file
+    };
+    let far = |km: f32| with(&|file| (file.gcd, file.gcdkm) = (km / 6370.0, km));
+    vec![
+        sample(
+            "summer",
+            "28.2 MHz over 1,450 km by one hop, and by two",
+            Ok([true, true]),
+            summer(),
+        ),
+        sample(
+            "winter-night",
+            "no sporadic E at one of three points, which governs",
+            Ok([false, false]),
+            with(&|file| (file.fs[2], file.freq) = ([0.0; 3], 12.1)),
+        ),
+        sample(
+            "bad-height",
+            "summer, with 75 km as hs of point 2",
+            Err(14),
+            with(&|file| file.hs[2] = 75.0),
+        ),
+        sample("x-two-hops", "summer, over 3,000 km", Ok([true, false]), far(3000.0)),
+        sample(
+            "x-second-alone",
+            "summer, with a minimum angle above that of one hop",
+            Ok([false, true]),
+            with(&|file| file.amind = 12.0),
+        ),
+        sample("x-beyond", "summer, over 6,000 km", Ok([false, false]), far(6000.0)),
+        sample(
+            "x-cutoff",
+            "summer, at a frequency that is just fsdead",
+            Ok([false, false]),
+            with(&|file| file.freq = file.fsdead),
+        ),
+    ]
+}
+
 impl Sample {
     /// The file of jobs/.
     pub fn file(&self) -> String {
@@ -345,7 +448,7 @@ impl Sample {
 const INTRODUCTION: &str = "\
 # Sample jobs
 
-Each file is a job of 5,360 bytes (`docs/JOB.md`). The table says what to expect of the answer.
+Each `.job` is a job of 5,360 bytes (`docs/JOB.md`). The tables say what to expect of the answer.
 
 ";
 
@@ -359,13 +462,20 @@ For tests, not for newcomers; the last five have tables that no ionosphere has:
 
 ";
 
+const ES: &str = "
+The files of `ray es` are the words of one call of `esmod`, 104 bytes; `ray help` has their order.
+
+| file | shows | answer |
+|---|---|---|
+";
+
 const REGENERATE: &str = "
 One command, in `host/`, writes these files and this page anew from layer heights:
 
     cargo run --release --offline --bin samples
 
 The five with tables that no ionosphere has come from no layers: they are stored as they were
-found, and the command leaves them alone. A test of the host holds every file and this page to the
+found, and the command leaves them alone. Tests of the host hold every file and this page to the
 command, the five to their SHA-256, and every answer to its line here.
 ";
 
@@ -374,5 +484,7 @@ pub fn readme() -> String {
     let (tests, samples): (Vec<_>, Vec<_>) =
         samples().into_iter().partition(|sample| sample.name.starts_with("x-"));
     let lines = |samples: Vec<Sample>| samples.iter().map(Sample::line).collect::<String>();
-    [INTRODUCTION, TABLE, &lines(samples), TESTS, TABLE, &lines(tests), REGENERATE].concat()
+    let es: String = es_samples().iter().map(EsSample::line).collect();
+    [INTRODUCTION, TABLE, &lines(samples), TESTS, TABLE, &lines(tests), ES, &es, REGENERATE]
+        .concat()
 }

@@ -2,7 +2,7 @@
 
 use host::entries;
 use host::job::{Answer, Job};
-use host::samples::{readme, samples, Expected, Origin};
+use host::samples::{es_samples, readme, samples, Expected, Origin};
 use std::collections::BTreeSet;
 use std::fs;
 use std::path::PathBuf;
@@ -28,9 +28,13 @@ fn the_stored_samples_are_the_commands() {
             Origin::Kept(sum) => assert_eq!(sha256::sha256(&bytes), sum, "{}", sample.name),
         }
     }
+    for sample in es_samples() {
+        assert!(read(&sample.file()) == sample.words.bytes(), "{} is stale", sample.name);
+    }
     assert_eq!(String::from_utf8(read("README.md")).unwrap(), readme());
     let files = fs::read_dir(stored(".")).unwrap().map(|entry| entry.unwrap().file_name());
     let mut names: BTreeSet<_> = samples().iter().map(|sample| sample.file().into()).collect();
+    names.extend(es_samples().iter().map(|sample| sample.file().into()));
     names.insert("README.md".into());
     assert_eq!(files.collect::<BTreeSet<_>>(), names);
 }

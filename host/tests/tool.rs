@@ -5,6 +5,7 @@
 use host::entries;
 use host::job::Answer;
 use host::prng::Prng;
+use host::samples::{es_samples, summer, EsFile};
 use std::ffi::{OsStr, OsString};
 use std::fs::{self, File};
 use std::io::Write;
@@ -156,6 +157,8 @@ fn wrong_use_is_told() {
         (&["job", "noon.job", "x", "y"], takes("job takes JOB and perhaps FILE")),
         (&["check"], takes("check takes JOB")),
         (&["words"], takes("words takes JOB")),
+        (&["es"], takes("es takes FILE")),
+        (&["es", "summer.es", "x"], takes("es takes FILE")),
         (&["help", "x"], takes("help takes nothing")),
         (&["ask", "noon.job", "x"], ASK.into()),
         (&["ask", "noon.job", "x", "hop"], ASK.into()),
@@ -185,9 +188,16 @@ fn help_is_printed() {
     let help = folder.ray(&["help"]);
     let text = String::from_utf8(help.does().to_vec()).unwrap();
     assert!(text.starts_with("ray: the angles at which a shortwave antenna"), "{text}");
-    for name in ["show", "draw", "job", "check", "words", "ask", "help"] {
+    for name in ["show", "draw", "job", "check", "words", "ask", "es", "help"] {
         assert!(text.contains(&format!("\n  ray {name} ")), "{name}: {text}");
     }
+    // The form of the file of `es`, in the order of its words.
+    let form = text.split("\n\n").find(|part| part.starts_with("The FILE of es is ")).unwrap();
+    let names = "26 words|least|byte first|km|f32|fs|hs|gcd|gcdkm|amind|freq|fsdead";
+    names.split('|').fold(form, |rest, name| match rest.split_once(name) {
+        Some((_, rest)) => rest,
+        None => panic!("{name}: {form}"),
+    });
     assert_eq!(folder.ray(&["--help"]), help);
     assert_eq!(folder.ray(&["-h"]), help);
 }
@@ -208,7 +218,7 @@ fn a_word_has_4095_bytes_at_most() {
 fn a_job_that_cannot_be_read_is_told() {
     let folder = Folder::new("unread");
     fs::create_dir(folder.file("folder")).unwrap();
-    for command in ["show", "draw", "job", "check", "words"] {
+    for command in ["show", "draw", "job", "check", "words", "es"] {
         let missing = folder.ray(&[command, "no\tsuch.job"]);
         missing.fails(66, "ray: no?such.job: No such file or directory\n");
         folder.ray(&[command, "folder"]).fails(66, "ray: folder: Is a directory\n");
@@ -440,12 +450,15 @@ fn a_file_that_cannot_be_written_is_told() {
         let full = folder.shell(&format!("\"$RAY\" {command} >/dev/full"));
         full.fails(74, "ray: standard output: not all could be written\n");
     }
+    folder.put("summer.es", &summer().bytes());
+    let full = folder.shell("\"$RAY\" es summer.es >/dev/full");
+    full.fails(74, "ray: standard output: not all could be written\n");
     folder.put("bad.job", b"");
     let full = folder.shell("\"$RAY\" check bad.job >/dev/full");
     full.fails(74, "ray: standard output: not all could be written\n");
     // Before the file is opened.
     folder.ray(&["draw", "nix", "folder"]).fails(66, "ray: nix: No such file or directory\n");
-    assert_eq!(folder.names(), ["bad.job", "folder", "noon.job"]);
+    assert_eq!(folder.names(), ["bad.job", "folder", "noon.job", "summer.es"]);
 }
 
 #[test]
@@ -589,6 +602,243 @@ fn what_ask_would_break_is_refused() {
     assert_eq!(folder.names(), ["bad.job", "good.job", "kept", "noon.job"]);
 }
 
+/// The file of `es`, changed.
+fn es_with(change: impl Fn(&mut EsFile)) -> Vec<u8> {
+    let mut file = summer();
+    change(&mut file);
+    file.bytes()
+}
+
+/// What esmod refuses, with the sentence and what is found: the first in the order of its limits.
+fn es_refused() -> Vec<(i32, Vec<u8>, &'static str, &'static str)> {
+    let length = "the file is not 104 bytes long";
+    let freq = "the frequency, freq, is not within 2 to 30 MHz";
+    let amind = "the minimum angle, amind, is not within 0 to 90 deg";
+    let es = "a number of sporadic E is not within its range";
+    let whole = summer().bytes();
+    // All that limit 14 looks at.
+    let all = |file: &mut EsFile| {
+        (file.fs, file.hs) = ([[-1.0; 3]; 5], [f32::NAN; 5]);
+        (file.gcd, file.gcdkm, file.fsdead) = (0.0, -1.0, 100.5);
+    };
+    vec![
+        (1, whole[..77].to_vec(), length, "77 bytes"),
+        (1, vec![], length, "0 bytes"),
+        (1, whole[..103].to_vec(), length, "103 bytes"),
+        (1, [&whole[..], &[0]].concat(), length, "more than 104 bytes"),
+        (
+            5,
+            es_with(|file| {
+                all(file);
+                (file.km, file.amind, file.freq) = (0, 91.0, 31.5);
+            }),
+            freq,
+            "freq 31.500 (41FC0000)",
+        ),
+        (
+            6,
+            es_with(|file| {
+                all(file);
+                (file.km, file.amind) = (9, -1.0);
+            }),
+            amind,
+            "amind -1.000 (BF800000)",
+        ),
+        (
+            14,
+            es_with(|file| {
+                all(file);
+                file.km = 0;
+            }),
+            es,
+            "km 0, which has to be 1 to 5",
+        ),
+        (14, es_with(|file| file.km = 6), es, "km 6, which has to be 1 to 5"),
+        (14, es_with(|file| file.km = u32::MAX), es, "km 4294967295, which has to be 1 to 5"),
+        (14, es_with(all), es, "hs, point 0: NaN (7FC00000), which has to be 80 to 200 km"),
+        (
+            14,
+            es_with(|file| {
+                (file.fs[0], file.fs[1][0]) = ([1.0, 2.0, 100.5], -1.0);
+                file.hs[1] = 250.0;
+            }),
+            es,
+            "fs 3, point 0: 100.500 (42C90000), which has to be 0 to 100 MHz",
+        ),
+        (
+            14,
+            es_with(|file| (file.hs[2], file.fsdead) = (75.0, -1.0)),
+            es,
+            "hs, point 2: 75.000 (42960000), which has to be 80 to 200 km",
+        ),
+        (
+            14,
+            es_with(|file| {
+                (file.km, file.hs[3], file.hs[4], file.fs[4][1]) = (5, 80.0, 200.0, -0.5)
+            }),
+            es,
+            "fs 2, point 4: -0.500 (BF000000), which has to be 0 to 100 MHz",
+        ),
+        (
+            14,
+            es_with(|file| (file.gcd, file.gcdkm) = (3.3, -1.0)),
+            es,
+            "gcd 3.300 (40533333), which has to be 0.001 to 3.2 radians",
+        ),
+        (
+            14,
+            es_with(|file| (file.gcdkm, file.fsdead) = (20200.0, -1.0)),
+            es,
+            "gcdkm 20200.000 (469DD000), which has to be 0 to 20100 km",
+        ),
+        (
+            14,
+            es_with(|file| file.fsdead = f32::INFINITY),
+            es,
+            "fsdead inf (7F800000), which has to be 0 to 100 MHz",
+        ),
+    ]
+}
+
+#[test]
+fn a_refused_file_of_es_has_its_number_and_two_lines() {
+    let folder = Folder::new("es-refused");
+    for (number, bytes, sentence, found) in es_refused() {
+        folder.put("it.es", &bytes);
+        let lines = format!(": refused, limit {number}: {sentence}\n  found: {found}\n");
+        folder.ray(&["es", "it.es"]).fails(number, &format!("ray: it.es{lines}"));
+        let input = File::open(folder.file("it.es")).unwrap();
+        let ran = folder.ray_on(&["es", "-"], input.into());
+        ran.fails(number, &format!("ray: standard input{lines}"));
+    }
+    let lines =
+        ": refused, limit 1: the file is not 104 bytes long\n  found: more than 104 bytes\n";
+    folder.ray(&["es", "/dev/zero"]).fails(1, &format!("ray: /dev/zero{lines}"));
+}
+
+/// The lines of slots 4 and 5: hops, angle, height and delay, or None where it is empty.
+fn es_slots(page: &str) -> [Option<[f64; 4]>; 2] {
+    ["  4   ", "  5   "].map(|slot| {
+        let line = page.lines().find_map(|line| line.strip_prefix(slot)).unwrap();
+        let numbers: Vec<_> = line.split_whitespace().map(|word| word.parse().ok()).collect();
+        match numbers[..] {
+            [None] if line == "empty" => None,
+            [Some(hops), Some(angle), Some(height), Some(delay)] => {
+                Some([hops, angle, height, delay])
+            }
+            _ => panic!("{page}"),
+        }
+    })
+}
+
+#[test]
+fn the_samples_of_es_are_answered_as_their_page_says() {
+    let folder = Folder::new("es");
+    for sample in es_samples() {
+        let path = top().join("jobs").join(sample.file());
+        let ran = folder.ray(&[OsStr::new("es"), path.as_os_str()]);
+        match sample.expected {
+            Ok(slots) => {
+                ran.does();
+                let found = es_slots(ran.text()).map(|slot| slot.is_some());
+                assert_eq!(found, slots, "{}", sample.name);
+                let told = ran.text().lines().any(|line| line.starts_with("No ray: "));
+                assert_eq!(told, slots == [false; 2], "{}", sample.name);
+            }
+            Err(number) => assert_eq!(ran.status, number as i32, "{}", sample.name),
+        }
+    }
+    folder.put("summer.es", &summer().bytes());
+    let input = File::open(folder.file("summer.es")).unwrap();
+    let named = folder.ray(&["es", "summer.es"]);
+    let lines: Vec<_> = named.text().lines().collect();
+    assert_eq!(lines[0], "SPORADIC E of summer.es: slots 4 and 5");
+    assert_eq!(lines[2], "  Point 1 of the 3 counted from 0 governs: the smallest middle fs.");
+    let asked = [
+        "  Frequency        28.200 MHz          Middle fs         5.900 MHz",
+        "  Path             1450.0 km           Height, hs        110.0 km",
+        "  Minimum angle     3.000 deg          Cutoff, fsdead    2.700 MHz",
+    ];
+    assert_eq!(lines[4..7], asked);
+    let read = folder.ray_on(&["es", "-"], input.into());
+    assert_eq!(read.text(), named.text().replace("summer.es", "standard input"));
+}
+
+/// What is printed of random files, beside the geometry in f64.
+#[test]
+fn the_page_of_es_has_the_geometry() {
+    let folder = Folder::new("es-random");
+    let mut prng = Prng::new(14);
+    let mut shown = [0; 4];
+    for _ in 0..400 {
+        let gcdkm = prng.within(50.0, 5500.0);
+        let file = EsFile {
+            km: 1 + prng.below(5) as u32,
+            fs: [(); 5].map(|_| [(); 3].map(|_| prng.within(0.5, 12.0))),
+            hs: [(); 5].map(|_| prng.within(80.0, 200.0)),
+            gcd: gcdkm / 6370.0,
+            gcdkm,
+            amind: prng.within(0.0, 20.0),
+            freq: prng.within(2.0, 30.0),
+            fsdead: prng.within(0.0, 4.0),
+        };
+        folder.put("it.es", &file.bytes());
+        let ran = folder.ray(&["es", "it.es"]);
+        ran.does();
+        let page = ran.text();
+        assert!(page.lines().all(|line| line.len() <= 78 && !line.ends_with(' ')), "{page}");
+        assert!(page.is_ascii() && page.ends_with('\n'), "{page}");
+        let middle = |point: &usize| file.fs[*point][1];
+        let counted = 0..file.km as usize;
+        let point = counted.min_by(|a, b| middle(a).total_cmp(&middle(b))).unwrap();
+        let governs = format!("  Point {point} of the {} counted from 0 governs: ", file.km);
+        assert!(page.contains(&governs), "{page}");
+        let slots = es_slots(page);
+        let dead = file.freq <= file.fsdead;
+        assert_eq!(
+            page.contains("\nNo ray: the frequency is not above the cutoff"),
+            dead,
+            "{page}"
+        );
+        if dead {
+            assert_eq!(slots, [None; 2], "{page}");
+            continue;
+        }
+        let height = f64::from(file.hs[point]);
+        let farthest = 2.0 * 6370.0 * (1.0 / (1.0 + height / 6370.0)).acos();
+        let hops = f64::from(gcdkm) / farthest + 1.0;
+        let mut near = (hops - hops.round()).abs() < 1e-4;
+        let expected = [hops.floor(), hops.floor() + 1.0].map(|hop| {
+            let half = 0.5 * f64::from(file.gcd) / hop;
+            let down = (half.sin() / (1.0 - half.cos() + height / 6370.0)).atan();
+            let rise = std::f64::consts::FRAC_PI_2 - half - down;
+            let path = hop * 2.0 * half.sin() * (6370.0 + height) / rise.cos();
+            let angle = rise.to_degrees();
+            near |= (angle - f64::from(file.amind)).abs() < 0.001;
+            let given = hop <= 2.0 && angle >= f64::from(file.amind);
+            given.then_some([hop, angle, height, path / 299.79246])
+        });
+        // Where a last bit may decide, either is right.
+        if near {
+            continue;
+        }
+        for (slot, expected) in slots.iter().zip(&expected) {
+            let same = match (slot, expected) {
+                (Some(slot), Some(expected)) => {
+                    let off = |i: usize| (slot[i] - expected[i]).abs();
+                    off(0) == 0.0 && off(1) < 0.002 && off(2) < 0.051 && off(3) < 0.002
+                }
+                (slot, expected) => slot.is_none() && expected.is_none(),
+            };
+            assert!(same, "{expected:?}\n{page}");
+        }
+        let none = page.contains("\nNo ray: by one or two hops the path is too long");
+        assert_eq!(none, slots == [None; 2], "{page}");
+        shown[slots.iter().fold(0, |n, slot| 2 * n + usize::from(slot.is_some()))] += 1;
+    }
+    assert!(shown.iter().all(|n| *n > 10), "{shown:?}");
+}
+
 /// The stored runs of the gate are the tool's: each line of crates/tool_runs/stdin, in a copy of
 /// its data.
 #[test]
@@ -621,23 +871,28 @@ fn the_stored_runs_are_the_tools() {
 /// The gate's program has its own copies of the samples, and jobs that break each limit.
 #[test]
 fn the_stored_runs_have_the_samples() {
+    let folder = Folder::new("refused-runs");
     let data = top().join("crates/tool_runs/data");
     for entry in fs::read_dir(top().join("jobs")).unwrap() {
         let path = entry.unwrap().path();
-        if path.extension() == Some(OsStr::new("job")) {
+        if path.extension() != Some(OsStr::new("md")) {
             let copy = data.join(path.file_name().unwrap());
             assert!(fs::read(&path).unwrap() == fs::read(&copy).unwrap(), "{}", copy.display());
         }
     }
     for entry in fs::read_dir(&data).unwrap() {
         let path = entry.unwrap().path();
-        let name = path.file_stem().unwrap().to_str().unwrap();
+        let name = path.file_name().unwrap().to_str().unwrap();
         if let Some(number) = name.strip_prefix("refused-") {
-            let number: u32 = number.split('-').next().unwrap().parse().unwrap();
-            let found = entries::job(&fs::read(&path).unwrap(), &mut [0; Answer::BYTES]);
+            let number: u32 = number.split(['-', '.']).next().unwrap().parse().unwrap();
+            let found = if name.ends_with(".es") {
+                folder.ray(&[OsStr::new("es"), path.as_os_str()]).status as u32
+            } else {
+                entries::job(&fs::read(&path).unwrap(), &mut [0; Answer::BYTES])
+            };
             assert_eq!(found, number, "{name}");
         } else {
-            assert!(sample(name).is_file(), "{name} is no sample");
+            assert!(top().join("jobs").join(name).is_file(), "{name} is no sample");
         }
     }
 }

@@ -1,6 +1,6 @@
-//! Writes the sample jobs and their page, jobs/.
+//! Writes the samples and their page, jobs/.
 
-use host::samples::{readme, samples, Origin};
+use host::samples::{es_samples, readme, samples, Origin};
 use std::fs;
 use std::path::Path;
 
@@ -12,6 +12,10 @@ fn main() -> std::io::Result<()> {
             fs::write(jobs.join(sample.file()), job.bytes())?;
             println!("{}", sample.file());
         }
+    }
+    for sample in es_samples() {
+        fs::write(jobs.join(sample.file()), sample.words.bytes())?;
+        println!("{}", sample.file());
     }
     fs::write(jobs.join("README.md"), readme())
 }
