@@ -17,7 +17,7 @@ sentenceOf n =
     cond (eqb n refusalJob) (bytes "the file is not 104 bytes long\n")
     (cond (eqb n refusalFreq) (bytes "the frequency, freq, is not within 2 to 30 MHz\n")
     (cond (eqb n refusalAmind) (bytes "the minimum angle, amind, is not within 0 to 90 deg\n")
-    (bytes "a number of sporadic E is not within its range\n")))
+    (bytes "km, fs, hs, gcd, gcdkm or fsdead is not within its range\n")))
 
 -- by the word of the file, counted from 0: its name, its value and bits, its range
 unfoldable pub singleText : ℕ → ℕ → List ℕ

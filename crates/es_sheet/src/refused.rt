@@ -1,5 +1,4 @@
 // The two lines of a file that is refused.
-ghost use mathlib.Core.Path.{_≡_};
 ghost use Rattle.decimal.specs.Wrote.{Wrote};
 ghost use Rattle.es_sheet.specs.Refusal.{sentenceOf, singleText, wordText, lineOf, lengthText, foundText, refusalText};
 use decimal::filled;
@@ -23,7 +22,11 @@ fn sentence(number: u32, out: &mut [u8], at: usize) -> usize
             b"the minimum angle, amind, is not within 0 to 90 deg\n",
         );
     }
-    text(out, at, b"a number of sporadic E is not within its range\n")
+    text(
+        out,
+        at,
+        b"km, fs, hs, gcd, gcdkm or fsdead is not within its range\n",
+    )
 }
 
 // A number that is none of a point's.
