@@ -614,7 +614,7 @@ fn es_refused() -> Vec<(i32, Vec<u8>, &'static str, &'static str)> {
     let length = "the file is not 104 bytes long";
     let freq = "the frequency, freq, is not within 2 to 30 MHz";
     let amind = "the minimum angle, amind, is not within 0 to 90 deg";
-    let es = "a number of sporadic E is not within its range";
+    let es = "km, fs, hs, gcd, gcdkm or fsdead is not within its range";
     let whole = summer().bytes();
     // All that limit 14 looks at.
     let all = |file: &mut EsFile| {

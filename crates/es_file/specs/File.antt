@@ -29,14 +29,22 @@ kmOf file = word file (ofFile "km")
 abbrev pub fsOf : List ℕ → List (List Float)
 fsOf file = pointsAt file (ofFile "fs")
 
--- the point that governs
+abbrev pub hsOf : List ℕ → List Float
+hsOf file = numbersAt file (ofFile "hs") points
+
+-- the point that governs, and the bits of its middle fs and of its hs
 abbrev pub chosenOf : List ℕ → ℕ
 chosenOf file = pointOf (fsOf file) (min (kmOf file) points)
 
+abbrev pub governingFs : List ℕ → ℕ
+governingFs file = word file (ofFile "fs" + pointNumbers * chosenOf file + 1)
+
+abbrev pub governingHs : List ℕ → ℕ
+governingHs file = word file (ofFile "hs" + chosenOf file)
+
 unfoldable pub modesOf : List ℕ → EsModes
 modesOf file =
-    esmodOf (kmOf file) (fsOf file)
-    (numbersAt file (ofFile "hs") points)
+    esmodOf (kmOf file) (fsOf file) (hsOf file)
     (numberAt file (ofFile "gcd"))
     (numberAt file (ofFile "gcdkm"))
     (numberAt file (ofFile "amind"))

@@ -1,11 +1,11 @@
 // The file of `ray es`: its words, esmod's answer to them, and the first number that is out of its range.
 ghost use mathlib.Core.Path.{_≡_};
 ghost use mathlib.Core.Bool.{cond};
-ghost use Prim.Native.Nat.{_+_, _*_, _<_, _≤_, min};
+ghost use Prim.Native.Nat.{_+_, _*_, _<_, min};
 ghost use Rattle.limits.specs.Limits.{broken};
 ghost use Rattle.limits.proofs.LimitsLaws.{orElse};
 ghost use Rattle.job.specs.Parts.{points, pointNumbers, numberAt, numbersAt};
-ghost use Rattle.es_file.specs.File.{kmOf, fsOf, chosenOf, modesOf, numberOf, pointTests, pointsTests, lastTests, foundOf};
+ghost use Rattle.es_file.specs.File.{fsOf, hsOf, chosenOf, modesOf, numberOf, pointTests, pointsTests, lastTests, foundOf};
 ghost use Rattle.es_file.specs.File.{ofFile};
 use esmod::EsModes;
 use job::layout;
@@ -59,7 +59,7 @@ fn fs(file: &[u8]) -> [[f32; 3]; 5]
 }
 
 fn hs(file: &[u8]) -> [f32; 5]
-    ensures { λ r. ⌜ r ≡ numbersAt (now (file .entry)) (ofFile "hs") points ⌝ }
+    ensures { λ r. ⌜ r ≡ hsOf (now (file .entry)) ⌝ }
 {
     [
         number(file, HS),

@@ -1,25 +1,17 @@
 -- The page of `ray es`: the point that governs, what was asked, and slots 4 and 5.
-use Prim.Native.Nat.{ℕ, _+_, _*_}
+use Prim.Native.Nat.{ℕ}
 use mathlib.Core.Bool.{Bool, cond, _&&_}
 use mathlib.Core.List.{List, [], _∷_, _++_}
 use lib.Ieee.{binary32, toBits, lt, le}
 use Rattle.arith.specs.Floats.{f32}
 use Rattle.arith.specs.Numbers.{0·0}
 use Rattle.job.specs.Layout.{word}
-use Rattle.job.specs.Parts.{pointNumbers}
 use Rattle.decimal.specs.Filled.{filledText}
 use Rattle.names.specs.Names.{shownOf}
 use Rattle.command.specs.Line.{bytes}
 use Rattle.esmod.specs.declared.EsHop.{EsHop}
 use Rattle.esmod.specs.declared.EsModes.{EsModes}
-use Rattle.es_file.specs.File.{ofFile, kmOf, chosenOf, modesOf}
-
--- the bits of the governing point's middle fs and of its height
-abbrev pub governingFs : List ℕ → ℕ
-governingFs file = word file (ofFile "fs" + pointNumbers * chosenOf file + 1)
-
-abbrev pub governingHs : List ℕ → ℕ
-governingHs file = word file (ofFile "hs" + chosenOf file)
+use Rattle.es_file.specs.File.{ofFile, kmOf, chosenOf, governingFs, governingHs, modesOf}
 
 abbrev pub headValues : List ℕ → List ℕ
 headValues file =

@@ -1,5 +1,4 @@
 // The two lines of a file that is refused.
-ghost use mathlib.Core.Path.{_≡_};
 ghost use Rattle.decimal.specs.Wrote.{Wrote};
 ghost use Rattle.es_sheet.specs.Refusal.{sentenceOf, singleText, wordText, lineOf, lengthText, foundText, refusalText};
 use decimal::filled;

@@ -1,9 +1,8 @@
 // The page: the point that governs, what was asked, slots 4 and 5.
 ghost use mathlib.Core.Path.{_≡_};
-ghost use mathlib.Core.Bool.{cond, _&&_};
-ghost use mathlib.Core.List.{[]};
 ghost use Rattle.decimal.specs.Wrote.{Wrote};
-ghost use Rattle.es_sheet.specs.Page.{governingFs, headValues, headText, isEmpty, slotText, whyText, slotsText, pageOf};
+ghost use Rattle.es_file.specs.File.{governingFs};
+ghost use Rattle.es_sheet.specs.Page.{headValues, headText, isEmpty, slotText, whyText, slotsText, pageOf};
 use decimal::filled;
 use decimal::text;
 use esmod::EsHop;

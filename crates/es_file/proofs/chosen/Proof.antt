@@ -23,7 +23,7 @@ returns : tie.Need-returns
 returns c =
     let file = c .before .before .before .before .before .args .file .now in
     let e : c .point .result ≡ chosenOf file = rw (← c .before .before .before .fs .ensures, ← c .before .before .word .ensures) (c .point .ensures) in
-    (e, rw e (point-below (fsOf file) _ 5 (omega arith) (omega arith)))
+    (e, rw e (point-below (fsOf file) (min (kmOf file) 5) (omega arith)))
 
 pub chosen-spec : {M : Type 1} → statement M
 chosen-spec = tie.close (tie.spec fs-requires word-requires cast-point point-requires returns)

@@ -1,6 +1,5 @@
 use borrow.Author.Tests.{eq-eqb, ne-eqb}
 use lib.ListN.{length}
-use mathlib.Core.Path.{refl}
 use borrow.Author.Needs.{needs}
 use Rattle.es_file.proofs.refusal.Statement.{statement}
 use Rattle.es_file.proofs.refusal.Tie as tie

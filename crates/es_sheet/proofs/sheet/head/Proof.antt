@@ -1,7 +1,5 @@
 use Rattle.decimal.proofs.WroteLaws.{wrote-as}
 use Rattle.words.specs.Lists.{tab}
-use mathlib.Core.Path.{ap}
-use Rattle.decimal.specs.Filled.{filledText}
 use borrow.Author.Needs.{needs}
 use Rattle.es_sheet.proofs.sheet.head.Statement.{statement}
 use Rattle.es_sheet.proofs.sheet.head.Tie as tie
