@@ -753,7 +753,7 @@ fn the_samples_of_es_are_answered_as_their_page_says() {
     let named = folder.ray(&["es", "summer.es"]);
     let lines: Vec<_> = named.text().lines().collect();
     assert_eq!(lines[0], "SPORADIC E of summer.es: slots 4 and 5");
-    assert_eq!(lines[2], "  Point 1 of the 3 counted from 0 governs: the smallest middle fs.");
+    assert_eq!(lines[2], "  Point 1 of the 3, counted from 0, governs: the smallest middle fs.");
     let asked = [
         "  Frequency        28.200 MHz          Middle fs         5.900 MHz",
         "  Path             1450.0 km           Height, hs        110.0 km",
@@ -791,7 +791,7 @@ fn the_page_of_es_has_the_geometry() {
         let middle = |point: &usize| file.fs[*point][1];
         let counted = 0..file.km as usize;
         let point = counted.min_by(|a, b| middle(a).total_cmp(&middle(b))).unwrap();
-        let governs = format!("  Point {point} of the {} counted from 0 governs: ", file.km);
+        let governs = format!("  Point {point} of the {}, counted from 0, governs: ", file.km);
         assert!(page.contains(&governs), "{page}");
         let slots = es_slots(page);
         let dead = file.freq <= file.fsdead;
