@@ -1,10 +1,13 @@
 //! The records that crates/replay reads, made by the oracle (docs/REPLAY.md says what is in them).
 
-use crate::entries::{AllModes, FdistJob, FindfJob, HopModes, MufHour, Reflectrix, Zon};
+use crate::entries::{
+    AllModes, EsJob, EsModes, FdistJob, FindfJob, HopModes, MufHour, Reflectrix, Zon,
+};
 use crate::job::{self, Answer, Job};
 use crate::prng::Prng;
 use crate::record::{Numbers, Record as Fields};
-use crate::{fdist, findf, floats, limits, oracle, page};
+use crate::samples::EsFile;
+use crate::{esmod, fdist, findf, floats, limits, oracle, page};
 use std::f32::consts::{FRAC_PI_2, PI};
 use std::mem::offset_of;
 use std::ops::{Range, RangeInclusive};
@@ -205,6 +208,34 @@ fn fdist_file() -> File {
     File { name: "fdist", records }
 }
 
+fn esmod_record(job: EsJob) -> Record {
+    let EsModes { refusal, slot4, slot5 } = esmod::call_of(&oracle::led::VARIANT, &job);
+    let EsJob { km, fs, hs, gcd, gcdkm, amind, freq, fsdead } = job;
+    let file = EsFile { km: km as u32, fs, hs, gcd, gcdkm, amind, freq, fsdead };
+    Record {
+        arguments: start().bytes(&file.bytes()),
+        answer: start().word(refusal).fields(&slot4).fields(&slot5),
+    }
+}
+
+/// Jobs of the three kinds, whose km goes from 0 to 7 in its turn in every fourth.
+fn esmod_file() -> File {
+    let mut prng = Prng::new(116);
+    let kinds: [(usize, esmod::Kind); 3] =
+        [(100, esmod::coast), (200, esmod::adversarial), (100, esmod::about_limits)];
+    let mut records = Vec::new();
+    for (count, kind) in kinds {
+        for turn in 0..count {
+            let mut job = kind(&mut prng);
+            if turn % 4 == 3 || job.km > 7 {
+                job.km = turn / 4 % 8;
+            }
+            records.push(esmod_record(job));
+        }
+    }
+    File { name: "esmod", records }
+}
+
 /// 500 arguments: of both signs the edges and the patterns beside them, NaN; the others drawn from
 /// all patterns up to `limit` and evenly from `spread`, none of them below 0 where `spread` is not.
 fn arguments(seed: u64, limit: f32, spread: RangeInclusive<f32>) -> Vec<f32> {
@@ -357,6 +388,7 @@ pub fn files() -> Vec<File> {
         jobs("jobs_limits", 103, job::about_limits),
         findf_file(),
         fdist_file(),
+        esmod_file(),
         function("sqrt", 106, f32::INFINITY, 0.0..=100.0, f32::sqrt),
         function("sin", 107, 4.0, -4.0..=4.0, page::sin),
         function("cos", 108, 4.0, -4.0..=4.0, page::cos),

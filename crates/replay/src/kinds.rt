@@ -1,6 +1,7 @@
 // The kinds of records: the arguments of a call, then all that it must give back.
 ghost use Prim.Native.Nat.{_≤_};
 use super::chances;
+use super::es;
 use super::jobs;
 use super::modes;
 use super::record;
@@ -11,6 +12,7 @@ pub(crate) enum Kind {
     Job,
     Findf,
     Fdist,
+    Esmod,
     Sqrt,
     Sin,
     Cos,
@@ -31,6 +33,7 @@ pub(crate) fn size(kind: Kind) -> usize
         Kind::Job => 6824,
         Kind::Findf => 8004,
         Kind::Fdist => 1628,
+        Kind::Esmod => 140,
         Kind::Prbmuf => 60,
         Kind::Reset => 3712,
         Kind::Accumulate => 4376,
@@ -46,6 +49,7 @@ pub(crate) fn answer(kind: Kind) -> usize
         Kind::Job => 5360,
         Kind::Findf => 6680,
         Kind::Fdist => 1472,
+        Kind::Esmod => es_file::BYTES,
         Kind::Prbmuf => 52,
         Kind::Reset => 1856,
         Kind::Accumulate => 2516,
@@ -72,6 +76,7 @@ pub(crate) fn agrees(kind: Kind, r: &[u8]) -> bool {
         Kind::Job => jobs::agrees(r),
         Kind::Findf => walks::agrees(r),
         Kind::Fdist => searches::agrees(r),
+        Kind::Esmod => es::agrees(r),
         Kind::Prbmuf => chances::agrees(r),
         Kind::Reset => modes::reset_agrees(r),
         Kind::Accumulate => modes::accumulate_agrees(r),

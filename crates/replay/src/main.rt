@@ -1,6 +1,7 @@
 // Replays the oracle's stored answers and says how many agree (docs/REPLAY.md).
 mod altered;
 mod chances;
+mod es;
 mod files;
 mod jobs;
 mod kinds;
@@ -33,7 +34,8 @@ fn routines(t: Tally) -> Tally {
     let b = file(a, b"jobs_adversarial", Kind::Job);
     let c = file(b, b"jobs_limits", Kind::Job);
     let d = file(c, b"findf", Kind::Findf);
-    file(d, b"fdist", Kind::Fdist)
+    let e = file(d, b"fdist", Kind::Fdist);
+    file(e, b"esmod", Kind::Esmod)
 }
 
 fn functions(t: Tally) -> Tally {

@@ -1,18 +1,9 @@
 -- Laws of the scales: what is rounded stays inside the plot. Assumes nothing.
 use Prim.Native.Nat.{ℕ, zero, suc, _+_, _-_, _*_, _/_, _≤_, _<_}
 use mathlib.Core.Path.{_≡_, sym, subst}
-use mathlib.Core.Logic.{_⊎_, inl, inr}
 use native.Mathlib.Omega.{arith}
-use native.Mathlib.Nat.{eq-or-lt-of-le, mul-le-mul-left, add-mul, div-lt-iff-lt-mul, mul-div-le, lt-mul-div-succ, mul-add, mul-comm, mul-left-comm}
+use native.Mathlib.Nat.{mul-le-mul-left, add-mul, div-lt-iff-lt-mul, mul-div-le, lt-mul-div-succ, mul-add, mul-comm, mul-left-comm}
 use Rattle.scale.specs.Scale.{stepAt, Least, liftedOf, ringOf}
-
--- what holds below k and at k holds below k + 1
-pub grown : (P : ℕ → Type 0) (k : ℕ) → ((j : ℕ) → j < k → P j) → P k → (j : ℕ) → j < k + 1 → P j
-grown P k all here j h = by-cases (eq-or-lt-of-le {n = j} {m = k} (omega arith))
-  where
-    by-cases : (j ≡ k) ⊎ (j < k) → P j
-    by-cases (inl e) = subst P (sym e) here
-    by-cases (inr l) = all j l
 
 -- the numerator of a part
 pub below : (width m end : ℕ) → m ≤ end → 0 < end → width * (2 * m) + end < (width + 1) * (2 * end)

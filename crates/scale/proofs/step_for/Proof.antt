@@ -1,15 +1,13 @@
 -- `scale::step_for` meets its contract. The loop's invariant: `most` of each step passed do not reach the top. Assumes nothing.
-use Prim.Native.Nat.{ℕ, _+_, _*_, _-_, _≤_, _<_}
-use mathlib.Core.Path.{_≡_, ap, subst, sym}
+use Prim.Native.Nat.{ℕ, _*_, _-_, _≤_, _<_}
+use mathlib.Core.Path.{subst}
 use native.Mathlib.Omega.{arith}
 use native.Mathlib.Nat.{mul-le-mul-right}
+use borrow.Author.Count.{below-more}
 use borrow.Author.Needs.{needs}
-use Rattle.scale.specs.Scale.{stepAt, Least}
-use Rattle.scale.proofs.ScaleLaws.{grown}
+use Rattle.scale.specs.Scale.{stepAt}
 use Rattle.scale.proofs.step_for.Statement.{statement}
 use Rattle.scale.proofs.step_for.Tie as tie
-use Rattle.scale.proofs.step_for.Reads as reads
-use Rattle.scale.proofs.step_for.Lts as lts
 
 abbrev Inv-loop : tie.InvT-loop
 Inv-loop top most k₀ k = (k ≤ 20) × ((j : ℕ) → j < k → most * stepAt j < top)
@@ -41,7 +39,7 @@ loop-less c = search needs
 loop-again : tie.Need-loop-again Inv-loop μ-loop
 loop-again c = (
   omega arith,
-  grown (λ j. c .before .before .before .before .before .args .most * stepAt j < c .before .before .before .before .before .args .top) (c .before .before .before .before .loop .k) (c .before .before .before .before .loop .inv .1)
+  below-more (λ j. c .before .before .before .before .before .args .most * stepAt j < c .before .before .before .before .before .args .top) (c .before .before .before .before .loop .k) (c .before .before .before .before .loop .inv .1)
       (subst (λ s. c .before .before .before .before .before .args .most * s < c .before .before .before .before .before .args .top) (c .before .before .step-at .ensures .0) (omega (arith, c .if1 .left, c .before .reach .ensures))),
 )
 
