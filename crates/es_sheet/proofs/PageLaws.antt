@@ -11,6 +11,7 @@ use lib.Ieee.{Float, binary32, neg, lt, le, ofInt, ofBits, round}
 use borrow.Author.Tests.{leb-true, leb-false}
 use Rattle.arith.specs.Floats.{f32, _⊗_, _⊘_, R2D, VOFL}
 use Rattle.arith.specs.Numbers.{0·0}
+use Rattle.arith.proofs.Order.{no}
 use Rattle.job.specs.Parts.{numberAt}
 use Rattle.esmod.specs.declared.EsHop.{EsHop}
 use Rattle.esmod.specs.Esmod.{emptyHop, thetOf, delOf, pathOf, hopOf, noHops, slotOf, hopsOf}
@@ -24,9 +25,6 @@ use Rattle.es_sheet.specs.Page.{isEmpty}
 pub empty-shown : isEmpty emptyHop ≡ true
 unfolding lt neg ofBits
 empty-shown = refl
-
-no : {X : Type 0} → false ≡ true → X
-no e = let z : _≡_ {A = ℕ} 0 1 = cc in absurd (omega arith)
 
 some-hops : (hop : ℕ) (r : EsHop) → 1 ≤ hop → hop ≤ 2 → r .hn ≡ ofInt binary32 (pos hop) → isEmpty r ≡ false
 unfolding lt ofInt ofBits round

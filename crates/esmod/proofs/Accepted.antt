@@ -10,7 +10,7 @@ use Rattle.arith.specs.Floats.{_⊖_}
 use Rattle.arith.specs.Numbers.{0·0}
 use Rattle.limits.specs.declared.Checked.{Checked}
 use Rattle.limits.specs.declared.Checked.the-variants.{Within}
-use Rattle.limits.specs.Limits.{checkedBy, broken, freqWithin, amindWithin, kmWithin, hsWithin, gcdWithin, gcdkmWithin, fsWithin, pointWithin, pointsWithin, esWithin}
+use Rattle.limits.specs.Limits.{checkedBy, broken, freqWithin, amindWithin, kmWithin, hsWithin, gcdWithin, gcdkmWithin, pointsWithin, esWithin}
 use Rattle.limits.proofs.LimitsLaws.{both, km-within, points-within, unbroken}
 use Rattle.limits.proofs.CheckedLaws.{within}
 use Rattle.esmod.specs.declared.EsModes.{EsModes}

@@ -1,14 +1,10 @@
 -- Order 1, "Two hops at most are tried": the two slots by the first number of hops. Assumes nothing.
-use mathlib.Core.Path.{_≡_, refl, ap, _∙_}
-use mathlib.Core.Bool.{cond}
+use mathlib.Core.Path.{_≡_, refl}
 use Prim.Native.Nat.{ℕ, suc, _≤_}
 use native.Mathlib.Omega.{arith}
 use borrow.Author.Tests.{lt-leb}
-use lib.Dec.{leb}
 use lib.Ieee.{Float, ofBits, ofInt}
 use Rattle.arith.specs.Numbers.{1·0, 2·0}
-use Rattle.esmod.specs.declared.EsHop.{EsHop}
-use Rattle.esmod.specs.declared.EsModes.{EsModes}
 use Rattle.esmod.specs.Esmod.{emptyHop, hopOf, ihsrtOf, slotOf, noHops, hopsOf}
 
 module _ (hs gcd amind : Float) where
