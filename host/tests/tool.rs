@@ -756,10 +756,11 @@ fn the_samples_of_es_are_answered_as_their_page_says() {
     assert_eq!(lines[2], "  Point 1 of the 3, counted from 0, governs: the smallest middle fs.");
     let asked = [
         "  Frequency        28.200 MHz          Middle fs         5.900 MHz",
-        "  Path             1450.0 km           Height, hs        110.0 km",
-        "  Minimum angle     3.000 deg          Cutoff, fsdead    2.700 MHz",
+        "  Path, gcdkm      1450.0 km           Height, hs        110.0 km",
+        "  Path, gcd         0.228 rad          Cutoff, fsdead    2.700 MHz",
+        "  Minimum angle     3.000 deg",
     ];
-    assert_eq!(lines[4..7], asked);
+    assert_eq!(lines[4..8], asked);
     let read = folder.ray_on(&["es", "-"], input.into());
     assert_eq!(read.text(), named.text().replace("summer.es", "standard input"));
 }

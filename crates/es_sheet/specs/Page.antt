@@ -15,13 +15,13 @@ use Rattle.es_file.specs.File.{ofFile, kmOf, chosenOf, governingFs, governingHs
 
 abbrev pub headValues : List ℕ → List ℕ
 headValues file =
-    chosenOf file ∷ kmOf file ∷ governingFs file ∷ governingHs file ∷ word file (ofFile "freq") ∷ word file (ofFile "amind") ∷ word file (ofFile "gcdkm") ∷ word file (ofFile "fsdead") ∷ []
+    chosenOf file ∷ kmOf file ∷ governingFs file ∷ governingHs file ∷ word file (ofFile "freq") ∷ word file (ofFile "amind") ∷ word file (ofFile "gcdkm") ∷ word file (ofFile "fsdead") ∷ word file (ofFile "gcd") ∷ []
 
 -- "it is the smallest middle fs"; lengths with one decimal, all else with three
 abbrev pub headText : List ℕ → List ℕ
 headText file =
     filledText (headValues file)
-    (bytes ": slots 4 and 5\n------------------------------------------------------------------------------\n  Point @Aw1 of the @Bw1, counted from 0, governs: the smallest middle fs.\n\n  Frequency     @E39 MHz          Middle fs     @C39 MHz\n  Path          @G19 km           Height, hs    @D19 km\n  Minimum angle @F39 deg          Cutoff, fsdead@H39 MHz\n\nRAYS by sporadic E\nslot  hops    take-off      height       delay\n                 angle\n                   deg          km          ms\n")
+    (bytes ": slots 4 and 5\n------------------------------------------------------------------------------\n  Point @Aw1 of the @Bw1, counted from 0, governs: the smallest middle fs.\n\n  Frequency     @E39 MHz          Middle fs     @C39 MHz\n  Path, gcdkm   @G19 km           Height, hs    @D19 km\n  Path, gcd     @I39 rad          Cutoff, fsdead@H39 MHz\n  Minimum angle @F39 deg\n\nRAYS by sporadic E\nslot  hops    take-off      height       delay\n                 angle\n                   deg          km          ms\n")
 
 -- an empty slot has -1 hops
 abbrev pub isEmpty : EsHop → Bool

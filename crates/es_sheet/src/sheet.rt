@@ -18,7 +18,7 @@ fn middle(file: &[u8]) -> u32
     word(file, es_file::FS + layout::POINT_NUMBERS * k + 1)
 }
 
-fn head_values(file: &[u8]) -> [u32; 8]
+fn head_values(file: &[u8]) -> [u32; 9]
     ensures { λ r. ⌜ r ≡ headValues (now (file .entry)) ⌝ }
 {
     let k = es_file::chosen(file);
@@ -31,6 +31,7 @@ fn head_values(file: &[u8]) -> [u32; 8]
         word(file, es_file::AMIND),
         word(file, es_file::GCDKM),
         word(file, es_file::FSDEAD),
+        word(file, es_file::GCD),
     ]
 }
 
@@ -39,7 +40,7 @@ fn head(file: &[u8], out: &mut [u8], at: usize) -> usize
 {
     let v = head_values(file);
     filled(
-        b": slots 4 and 5\n------------------------------------------------------------------------------\n  Point @Aw1 of the @Bw1, counted from 0, governs: the smallest middle fs.\n\n  Frequency     @E39 MHz          Middle fs     @C39 MHz\n  Path          @G19 km           Height, hs    @D19 km\n  Minimum angle @F39 deg          Cutoff, fsdead@H39 MHz\n\nRAYS by sporadic E\nslot  hops    take-off      height       delay\n                 angle\n                   deg          km          ms\n",
+        b": slots 4 and 5\n------------------------------------------------------------------------------\n  Point @Aw1 of the @Bw1, counted from 0, governs: the smallest middle fs.\n\n  Frequency     @E39 MHz          Middle fs     @C39 MHz\n  Path, gcdkm   @G19 km           Height, hs    @D19 km\n  Path, gcd     @I39 rad          Cutoff, fsdead@H39 MHz\n  Minimum angle @F39 deg\n\nRAYS by sporadic E\nslot  hops    take-off      height       delay\n                 angle\n                   deg          km          ms\n",
         &v,
         out,
         at,

@@ -32,8 +32,11 @@ word-requires-5 c κs = search needs
 word-requires-6 : tie.Need-word-requires-6
 word-requires-6 c κs = search needs
 
+word-requires-7 : tie.Need-word-requires-7
+word-requires-7 c κs = search needs
+
 returns : tie.Need-returns
-returns c = rw (c .word6 .ensures, c .before .word5 .ensures, c .before .before .word4 .ensures, c .before .before .before .word3 .ensures, c .before .before .before .before .word2 .ensures, c .before .before .before .before .before .middle .ensures, c .before .before .before .before .before .before .word .ensures, c .before .before .before .before .before .before .before .chosen .ensures .0)
+returns c = rw (c .word7 .ensures, c .before .word6 .ensures, c .before .before .word5 .ensures, c .before .before .before .word4 .ensures, c .before .before .before .before .word3 .ensures, c .before .before .before .before .before .word2 .ensures, c .before .before .before .before .before .before .middle .ensures, c .before .before .before .before .before .before .before .word .ensures, c .before .before .before .before .before .before .before .before .chosen .ensures .0)
 
 pub head-values-spec : {M : Type 1} → statement M
 head-values-spec =
@@ -49,4 +52,5 @@ head-values-spec =
     word-requires-4
     word-requires-5
     word-requires-6
+    word-requires-7
     returns)
