@@ -463,7 +463,7 @@ For tests, not for newcomers; the last five have tables that no ionosphere has:
 ";
 
 const ES: &str = "
-The files of `ray es` are the words of one call of `esmod`, 104 bytes; `ray help` has their order.
+Each `.es` is a file of `ray es`: the numbers of one call of `esmod`, 104 bytes. `docs/JOB.md` has them, and how to write such a file.
 
 | file | shows | answer |
 |---|---|---|

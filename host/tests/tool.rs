@@ -765,6 +765,23 @@ fn the_samples_of_es_are_answered_as_their_page_says() {
     assert_eq!(read.text(), named.text().replace("summer.es", "standard input"));
 }
 
+/// The program of docs/JOB.md writes a file of `es`, and its page has the rays that stand there too.
+#[test]
+fn a_file_of_es_is_written_as_its_page_says() {
+    let page = fs::read_to_string(top().join("docs/JOB.md")).unwrap();
+    let program = page.lines().skip_while(|line| *line != "    import struct");
+    let program: Vec<_> = program.map_while(|line| line.strip_prefix("    ")).collect();
+    let folder = Folder::new("es-written");
+    folder.put("write.py", program.join("\n").as_bytes());
+    folder.shell("python3 write.py").does();
+    let ran = folder.ray(&["es", "path.es"]);
+    ran.does();
+    let slots = es_slots(ran.text());
+    assert_eq!(slots, [Some([1.0, 3.809, 105.0, 5.423]), Some([2.0, 12.79, 105.0, 5.559])]);
+    let above = "slot4: b 3.809, hn 1, hp 105, timed 5.423; slot5: b 12.790, hn 2, hp 105, timed 5.559";
+    assert!(page.contains(above));
+}
+
 /// What is printed of random files, beside the geometry in f64.
 #[test]
 fn the_page_of_es_has_the_geometry() {
