@@ -778,7 +778,8 @@ fn a_file_of_es_is_written_as_its_page_says() {
     ran.does();
     let slots = es_slots(ran.text());
     assert_eq!(slots, [Some([1.0, 3.809, 105.0, 5.423]), Some([2.0, 12.79, 105.0, 5.559])]);
-    let above = "slot4: b 3.809, hn 1, hp 105, timed 5.423; slot5: b 12.790, hn 2, hp 105, timed 5.559";
+    let above =
+        "slot4: b 3.809, hn 1, hp 105, timed 5.423; slot5: b 12.790, hn 2, hp 105, timed 5.559";
     assert!(page.contains(above));
 }
 
