@@ -22,6 +22,7 @@ fn used_reflectrix() -> Reflectrix {
         fvflx: [4.5; 45],
         afflx: [0.25; 45],
         imode: [7; 45],
+        kind: [10; 45],
         dskpkm: 1.0,
         delskp: 2.0,
         hpskp: 3.0,
@@ -54,6 +55,7 @@ fn reflectrix(r: Reflectrix) {
     let fvflx = r.fvflx;
     let afflx = r.afflx;
     let imode = r.imode;
+    let kind = r.kind;
     let delpen = r.delpen;
     say::column(b"delfx", delfx);
     say::column(b"hpflx", hpflx);
@@ -62,6 +64,7 @@ fn reflectrix(r: Reflectrix) {
     say::column(b"fvflx", fvflx);
     say::column(b"afflx", afflx);
     say::layers(b"imode", imode);
+    say::layers(b"kind", kind);
     say::float(b"dskpkm", r.dskpkm);
     say::float(b"delskp", r.delskp);
     say::float(b"hpskp", r.hpskp);

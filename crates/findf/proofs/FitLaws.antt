@@ -1,4 +1,4 @@
--- Every number that a walk leaves in its columns is one of f32, and every layer is small: so they come back from their words. Assumes nothing.
+-- Every number that a walk leaves in its columns is one of f32, and every layer and kind is small: so they come back from their words. Assumes nothing.
 use mathlib.Core.Path.{_≡_, refl, sym, ap, subst, _∙_}
 use mathlib.Core.Bool.{Bool, true, false, cond}
 use mathlib.Core.List.{List, [], _∷_, map}
@@ -19,7 +19,7 @@ use Rattle.root.specs.Root.{sqrtOf}
 use Rattle.angles.specs.Arccosine.{acosOf}
 use Rattle.penang.specs.Penang.{fratOf, angleOf, cuspOf, xmOf, cdelOf, penetration, topOf, f2Of, f1Of, penangOf}
 use Rattle.findf.specs.Walk.{ANG, angOf, start, searchBy, searchOf, nextLayerBy, nextLayerOf, nextCuspBy, nextCuspOf, filledBy, filledOf}
-use Rattle.findf.specs.Rows.{rawOf, nextModeOf, modeOf, highOf, correctedOf, rowOf}
+use Rattle.findf.specs.Rows.{rawOf, nextModeOf, modeOf, kindOf, highOf, correctedOf, rowOf}
 use Rattle.findf.specs.Findf.{State, fillOf, stepBy, stepOf, begun, walkOf, walkedOf, limitsOf, anglesOf, findfOf, walkSteps}
 use Rattle.findf.specs.Inputs.{Job, secondOf, Inputs}
 use Rattle.findf.proofs.StepLaws.{walk-iterate}
@@ -171,6 +171,7 @@ pub record Fitting (r : Reflectrix) : Type 0 where
   pub fvs : Singles (r .fvflx)
   pub afs : Singles (r .afflx)
   pub modes : (j : ℕ) → getD (r .imode) j 0 ≤ 4
+  pub kinds : (j : ℕ) → getD (r .kind) j 0 ≤ 4
 
 record Read (e : Inputs) : Type 0 where
   fvert-read : Singles (e .fvert)
@@ -185,6 +186,7 @@ record Whole (t : Row) : Type 0 where
   whole-fv : Single (t .fv)
   whole-af : Single (t .af)
   whole-mode : t .mode ≤ 4
+  whole-kind : t .kind ≤ 4
 
 next-mode : (il : ℕ) (second : Float) → il ≤ 3 → nextModeOf il second ≤ 4
 unfolding nextModeOf
@@ -200,6 +202,7 @@ module _ (e : Inputs) (ok : Read e) (w : Walk) (r : Reflectrix) (l : w .il ≤ 3
     whole-fv = ok .fvert-read .each _;
     whole-af = ok .afac-read .each _;
     whole-mode = omega arith;
+    whole-kind = omega arith;
   }
   row-whole Interp = record {
     whole-del = ang-single _;
@@ -208,6 +211,7 @@ module _ (e : Inputs) (ok : Read e) (w : Walk) (r : Reflectrix) (l : w .il ≤ 3
     whole-fv = single-add _ _;
     whole-af = single-add _ _;
     whole-mode = omega arith;
+    whole-kind = omega arith;
   }
   row-whole Cusp = record {
     whole-del = ok .delpen-read .each _;
@@ -216,6 +220,7 @@ module _ (e : Inputs) (ok : Read e) (w : Walk) (r : Reflectrix) (l : w .il ≤ 3
     whole-fv = ok .fvert-read .each _;
     whole-af = ok .afac-read .each _;
     whole-mode = omega arith;
+    whole-kind = omega arith;
   }
   row-whole NextCusp360 = record {
     whole-del = single-add _ _;
@@ -224,6 +229,7 @@ module _ (e : Inputs) (ok : Read e) (w : Walk) (r : Reflectrix) (l : w .il ≤ 3
     whole-fv = ok .fvert-read .each _;
     whole-af = ok .afac-read .each _;
     whole-mode = next-mode (w .il) (e .second) l;
+    whole-kind = omega arith;
   }
 
   fill-fits : (fill : F.Fill) → Fitting (fillOf e fill w r)
@@ -237,6 +243,7 @@ module _ (e : Inputs) (ok : Read e) (w : Walk) (r : Reflectrix) (l : w .il ≤ 3
         fvs = singles-set (r .fvflx) (w .rows) _ (t .whole-fv) (was .fvs);
         afs = singles-set (r .afflx) (w .rows) _ (t .whole-af) (was .afs);
         modes = set-all (λ (n : ℕ). n ≤ 4) (r .imode) (w .rows) _ 0 (t .whole-mode) (was .modes);
+        kinds = set-all (λ (n : ℕ). n ≤ 4) (r .kind) (w .rows) _ 0 (t .whole-kind) (was .kinds);
       }
 
 -- ---- the layer
@@ -286,7 +293,7 @@ module _ (e : Inputs) (ok : Read e) where
 begun-fits : (r : Reflectrix) (p : Penetration) → Fitting r → Fitting (begun r p)
 begun-fits r p was =
     let zeros = singles-same 45 0·0 (single-bits 0) in
-    record { dels = zeros; hps = zeros; hts = was .hts; fvs = was .fvs; afs = was .afs; modes = was .modes }
+    record { dels = zeros; hps = zeros; hts = was .hts; fvs = was .fvs; afs = was .afs; modes = was .modes; kinds = same-all (λ (n : ℕ). n ≤ 4) 45 0 0 (omega arith) (omega arith) }
 
 module _ (r : Reflectrix) (j : Job) where
   -- an accepted walk on such columns and tables leaves such columns

@@ -2,7 +2,7 @@
 -- `fill-writes`, `fill-spares`: a fill writes row `rows` and no other. `others-keep`: any other step writes nothing. `step-sized`, `sized-throughout`:
 -- columns of 45 rows stay so; `begun-sized`: findf starts with them. `written-stays`: a row once written stays; `filled-stays`: and so does a fill's row.
 -- `unwritten-keeps`: a row that is not written keeps its old contents. `beyond-zero`: from the start on, heights, angles and
--- lengths beyond the rows written are +0, and `rows_this_call` is the number of rows. `dmaxkm-never-falls`: no step lowers dmaxkm, and
+-- lengths beyond the rows written are +0, kinds 0, and `rows_this_call` is the number of rows. `dmaxkm-never-falls`: no step lowers dmaxkm, and
 -- it never is NaN. `rows-have-fills`: each row that is written has the fill that wrote it. `delpen-stays`: no step writes the penetration angles.
 use mathlib.Core.Path.{_≡_, refl, sym, ap, subst, _∙_}
 use mathlib.Core.Bool.{Bool, true, false, cond}
@@ -41,6 +41,7 @@ pub record SameRow (j : ℕ) (r r' : Reflectrix) : Type 0 where
   pub same-fv : getD (r' .fvflx) j nan ≡ getD (r .fvflx) j nan
   pub same-af : getD (r' .afflx) j nan ≡ getD (r .afflx) j nan
   pub same-mode : getD (r' .imode) j 0 ≡ getD (r .imode) j 0
+  pub same-kind : getD (r' .kind) j 0 ≡ getD (r .kind) j 0
 
 -- columns of 45 rows
 pub record Sized (r : Reflectrix) : Type 0 where
@@ -51,6 +52,7 @@ pub record Sized (r : Reflectrix) : Type 0 where
   pub len-fv : length (r .fvflx) ≡ 45
   pub len-af : length (r .afflx) ≡ 45
   pub len-mode : length (r .imode) ≡ 45
+  pub len-kind : length (r .kind) ≡ 45
 
 module _ (e : Inputs) (fill : F.Fill) (w : Walk) (r : Reflectrix) where
   -- a fill writes row `rows`, counted from 0,
@@ -65,6 +67,7 @@ module _ (e : Inputs) (fill : F.Fill) (w : Walk) (r : Reflectrix) where
         is-fv = getD-set-same (r .fvflx) (w .rows) _ nan (omega arith);
         is-af = getD-set-same (r .afflx) (w .rows) _ nan (omega arith);
         is-mode = getD-set-same (r .imode) (w .rows) _ 0 (omega arith);
+        is-kind = getD-set-same (r .kind) (w .rows) _ 0 (omega arith);
       }
 
   -- and no other
@@ -79,6 +82,7 @@ module _ (e : Inputs) (fill : F.Fill) (w : Walk) (r : Reflectrix) where
         same-fv = getD-set-other (r .fvflx) (w .rows) j _ nan h;
         same-af = getD-set-other (r .afflx) (w .rows) j _ nan h;
         same-mode = getD-set-other (r .imode) (w .rows) j _ 0 h;
+        same-kind = getD-set-other (r .kind) (w .rows) j _ 0 h;
       }
 
   pub fill-sized : Sized r → Sized (fillOf e fill w r)
@@ -92,6 +96,7 @@ module _ (e : Inputs) (fill : F.Fill) (w : Walk) (r : Reflectrix) where
         len-fv = simp length-set (z .len-fv);
         len-af = simp length-set (z .len-af);
         len-mode = simp length-set (z .len-mode);
+        len-kind = simp length-set (z .len-kind);
       }
 
 -- a step that is no fill writes nothing
@@ -132,10 +137,11 @@ begun-sized r p z =
       len-fv = z .len-fv;
       len-af = z .len-af;
       len-mode = z .len-mode;
+      len-kind = length-replicate {A = ℕ} 45 0;
     }
 
 same-row : (j : ℕ) (r : Reflectrix) → SameRow j r r
-same-row j r = record { same-del = refl; same-hp = refl; same-ht = refl; same-gdr = refl; same-fv = refl; same-af = refl; same-mode = refl }
+same-row j r = record { same-del = refl; same-hp = refl; same-ht = refl; same-gdr = refl; same-fv = refl; same-af = refl; same-mode = refl; same-kind = refl }
 
 same-trans : {j : ℕ} {r s t : Reflectrix} → SameRow j r s → SameRow j s t → SameRow j r t
 same-trans a b =
@@ -147,6 +153,7 @@ same-trans a b =
       same-fv = b .same-fv ∙ a .same-fv;
       same-af = b .same-af ∙ a .same-af;
       same-mode = b .same-mode ∙ a .same-mode;
+      same-kind = b .same-kind ∙ a .same-kind;
     }
 
 row-same : {i : ℕ} {t : Row} {r s : Reflectrix} → RowIs i t r → SameRow i r s → RowIs i t s
@@ -159,6 +166,7 @@ row-same a b =
       is-fv = b .same-fv ∙ a .is-fv;
       is-af = b .same-af ∙ a .is-af;
       is-mode = b .same-mode ∙ a .is-mode;
+      is-kind = b .same-kind ∙ a .is-kind;
     }
 
 -- a step changes no row but row `rows`, counted from 0
@@ -232,6 +240,7 @@ pub record Beyond (s : State) : Type 0 where
   pub zero-del : (j : ℕ) → s .0 .rows ≤ j → j < 45 → getD (s .1 .delfx) j nan ≡ 0·0
   pub zero-hp : (j : ℕ) → s .0 .rows ≤ j → j < 45 → getD (s .1 .hpflx) j nan ≡ 0·0
   pub zero-gdr : (j : ℕ) → s .0 .rows ≤ j → j < 45 → getD (s .1 .gdflx) j nan ≡ 0·0
+  pub zero-kind : (j : ℕ) → s .0 .rows ≤ j → j < 45 → getD (s .1 .kind) j 0 ≡ 0
   pub counted : s .1 .«rows_this_call» ≡ s .0 .rows
 
 fill-counted : (e : Inputs) (fill : F.Fill) (w : Walk) (r : Reflectrix) → fillOf e fill w r .«rows_this_call» ≡ w .rows + 1
@@ -246,6 +255,7 @@ module _ (e : Inputs) where
         zero-del = λ j h l. spared j h .same-del ∙ b .zero-del j (omega arith) l;
         zero-hp = λ j h l. spared j h .same-hp ∙ b .zero-hp j (omega arith) l;
         zero-gdr = λ j h l. spared j h .same-gdr ∙ b .zero-gdr j (omega arith) l;
+        zero-kind = λ j h l. spared j h .same-kind ∙ b .zero-kind j (omega arith) l;
         counted = fill-counted e fill w r ∙ sym q;
       }
 
@@ -255,6 +265,7 @@ module _ (e : Inputs) where
         zero-del = λ j h l. b .zero-del j (omega arith) l;
         zero-hp = λ j h l. b .zero-hp j (omega arith) l;
         zero-gdr = λ j h l. b .zero-gdr j (omega arith) l;
+        zero-kind = λ j h l. b .zero-kind j (omega arith) l;
         counted = omega (arith, b .counted);
       }
 
@@ -281,6 +292,7 @@ begun-beyond r p =
       zero-del = λ j h l. getD-replicate 45 j 0·0 nan l;
       zero-hp = λ j h l. getD-replicate 45 j 0·0 nan l;
       zero-gdr = λ j h l. getD-replicate 45 j 0·0 nan l;
+      zero-kind = λ j h l. getD-replicate 45 j 0 0 l;
       counted = refl;
     }
 

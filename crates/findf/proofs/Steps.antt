@@ -4,7 +4,7 @@ use mathlib.Core.Bool.{false}
 use lib.Ieee.{Float}
 use Rattle.arith.specs.Run.{more, done, stopBy, until}
 use Rattle.findf.specs.Walk.{searchOf, nextLayerOf, nextCuspOf, backOf, afterOf, filledOf, doneAt}
-use Rattle.findf.specs.Rows.{rawOf, modeOf, correctionOf, rowBy, rowOf, skipOf, skipIn, farOf, putOf}
+use Rattle.findf.specs.Rows.{rawOf, modeOf, kindOf, correctionOf, rowBy, rowOf, skipOf, skipIn, farOf, putOf}
 use Rattle.findf.specs.Findf.{State, fillOf, stepBy, stepOf, turnOf}
 use Rattle.findf.specs.Inputs.{Inputs}
 use Rattle.findf.specs.declared.walk.Walk.{Walk}
@@ -35,24 +35,24 @@ module _ (e : Inputs) (w : Walk) (r : Reflectrix) where
   unfolding stepBy
   next-cusps p v = turns NextCusp p refl (simp (← v))
 
-  -- what a fill comes to: its row before the correction, the row's layer, the angles given back and the label after it
+  -- what a fill comes to: its row before the correction, the row's layer and kind, the angles given back and the label after it
   abbrev Filled : F.Fill → Filling → Type 0
   Filled fill q =
       (q .raw ≡ rawOf (e .fvert) (e .hprim) (e .htrue) (e .afac) (e .ifob) (e .delpen) (r .delfx) (e .jfhz) fill w)
-      × ((q .mode ≡ modeOf fill (w .il) (e .second)) × ((q .back ≡ backOf fill) × (q .after ≡ afterOf fill)))
+      × ((q .mode ≡ modeOf fill (w .il) (e .second)) × ((q .kind ≡ kindOf fill) × ((q .back ≡ backOf fill) × (q .after ≡ afterOf fill))))
 
   row-is : (fill : F.Fill) {q : Filling} {m : Corrected} {t : Row} → Filled fill q → m ≡ correctionOf (e .freq) (e .fc2) (q .raw)
-      → t ≡ rowBy (q .raw) m (q .mode)
+      → t ≡ rowBy (q .raw) m (q .mode) (q .kind)
       → t ≡ rowOf e (r .delfx) fill w
   unfolding rowOf
-  row-is fill q m t = rw (t, m, q .0, q .1 .0)
+  row-is fill q m t = rw (t, m, q .0, q .1 .0, q .1 .1 .0)
 
-  pub fills : {fill : F.Fill} {v : Walk} {q : Filling} {m : Corrected} {t : Row} {s : Skip} {d : Float} → w .label ≡ Fill fill → Filled fill q
-      → m ≡ correctionOf (e .freq) (e .fc2) (q .raw) → t ≡ rowBy (q .raw) m (q .mode)
-      → s ≡ skipOf (skipIn r) t (w .il) → d ≡ farOf (r .dmaxkm) (t .gdr) (t .del) (e .amind) → v ≡ filledOf fill w
-      → turnOf e (w, r) ≡ more (v, putOf r (w .rows) t s d)
+  pub fills : {fill : F.Fill} {v : Walk} {q : Filling} {m : Corrected} {t : Row} {s : Skip} {d : Float} {r' : Reflectrix} → w .label ≡ Fill fill → Filled fill q
+      → m ≡ correctionOf (e .freq) (e .fc2) (q .raw) → t ≡ rowBy (q .raw) m (q .mode) (q .kind)
+      → s ≡ skipOf (skipIn r) t (w .il) → d ≡ farOf (r .dmaxkm) (t .gdr) (t .del) (e .amind) → r' ≡ putOf r (w .rows) t s d → v ≡ filledOf fill w
+      → turnOf e (w, r) ≡ more (v, r')
   unfolding stepBy fillOf
-  fills {fill} p q m t s d v = turns (Fill fill) p refl (simp (← row-is fill q m t, ← s, ← d, ← v))
+  fills {fill} p q m t s d put v = turns (Fill fill) p refl (simp (← row-is fill q m t, ← s, ← d, ← v, ← put))
 
   pub ends : w .label ≡ Done → turnOf e (w, r) ≡ done (w, r)
   unfolding until

@@ -83,3 +83,4 @@ pub record RowIs (i : ℕ) (t : Row) (r : Reflectrix) : Type 0 where
   pub is-fv : getD (r .fvflx) i nan ≡ t .fv
   pub is-af : getD (r .afflx) i nan ≡ t .af
   pub is-mode : getD (r .imode) i 0 ≡ t .mode
+  pub is-kind : getD (r .kind) i 0 ≡ t .kind

@@ -88,6 +88,7 @@ begunBy r delpen dmaxkm dskpkm =
       fvflx = r .fvflx;
       afflx = r .afflx;
       imode = r .imode;
+      kind = replicate 45 0;
       dskpkm = dskpkm;
       delskp = r .delskp;
       hpskp = r .hpskp;
@@ -101,7 +102,7 @@ begunBy r delpen dmaxkm dskpkm =
     }
 
 -- lines 684 to 696: "It first sets dmaxkm 0, dskpkm 10000, and hpflx, delfx, gdflx to 0 in all 45 rows; every other field keeps its old contents
--- until written", and the row count to 0; then penang
+-- until written", and the row count to 0; then penang. Order 2: "Rows not written in this call have 0" as their kind.
 abbrev pub begun : Reflectrix → Penetration → Reflectrix
 begun r p = begunBy r (p .delpen) (unlessOf (p .dead) 0·0) (unlessOf (p .dead) 10000·0)
 

@@ -7,9 +7,9 @@ use Rattle.findf.specs.declared.Outcome.{Outcome}
 use Rattle.findf.specs.declared.Reflectrix.{Reflectrix}
 use Rattle.findf.specs.declared.Walked.{Walked}
 
--- the reflectrix that seven lent columns and the figures beside them make
-abbrev pub reflectrixFrom : List Float → List Float → List Float → List Float → List Float → List Float → List ℕ → Figures → Reflectrix
-reflectrixFrom delfx hpflx htflx gdflx fvflx afflx imode f =
+-- the reflectrix that eight lent columns and the figures beside them make
+abbrev pub reflectrixFrom : List Float → List Float → List Float → List Float → List Float → List Float → List ℕ → List ℕ → Figures → Reflectrix
+reflectrixFrom delfx hpflx htflx gdflx fvflx afflx imode kind f =
     record {
       delfx = delfx;
       hpflx = hpflx;
@@ -18,6 +18,7 @@ reflectrixFrom delfx hpflx htflx gdflx fvflx afflx imode f =
       fvflx = fvflx;
       afflx = afflx;
       imode = imode;
+      kind = kind;
       dskpkm = f .dskpkm;
       delskp = f .delskp;
       hpskp = f .hpskp;
@@ -31,6 +32,6 @@ reflectrixFrom delfx hpflx htflx gdflx fvflx afflx imode f =
     }
 
 -- the answer that they make once the walk is over
-abbrev pub walkedFrom : List Float → List Float → List Float → List Float → List Float → List Float → List ℕ → Outcome → Walked
-walkedFrom delfx hpflx htflx gdflx fvflx afflx imode o =
-    record { refusal = o .refusal; looks = o .looks; rfx = reflectrixFrom delfx hpflx htflx gdflx fvflx afflx imode (o .figures) }
+abbrev pub walkedFrom : List Float → List Float → List Float → List Float → List Float → List Float → List ℕ → List ℕ → Outcome → Walked
+walkedFrom delfx hpflx htflx gdflx fvflx afflx imode kind o =
+    record { refusal = o .refusal; looks = o .looks; rfx = reflectrixFrom delfx hpflx htflx gdflx fvflx afflx imode kind (o .figures) }

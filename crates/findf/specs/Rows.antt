@@ -68,6 +68,13 @@ modeOf Interp il second = il
 modeOf Cusp il second = il
 modeOf NextCusp360 il second = nextModeOf il second
 
+-- order 2: "1 exact or filled because the lowest entry passes, 2 interpolated, 3 cusp, 4 the row after a cusp"; the Rust has no kind
+abbrev pub kindOf : Fill → ℕ
+kindOf Exact = 1
+kindOf Interp = 2
+kindOf Cusp = 3
+kindOf NextCusp360 = 4
+
 -- RZ × cos del (line 865)
 unfoldable pub rcosdOf : Float → Float
 rcosdOf del = RZ ⊗ cosOf del
@@ -95,17 +102,17 @@ abbrev pub correctionOf : Float → Float → Raw → Corrected
 correctionOf freq fc2 a = correctedOf freq fc2 (rcosdOf (a .del ⊗ D2R)) (a .ht) (a .fv) (a .hp)
 
 -- the row as it is written
-abbrev pub rowBy : Raw → Corrected → ℕ → Row
-rowBy a m mode =
-    record { del = a .del; hp = m .hp; ht = a .ht; gdr = hopOf (a .del ⊗ D2R) (m .sphe); fv = a .fv; af = a .af; mode = mode }
+abbrev pub rowBy : Raw → Corrected → ℕ → ℕ → Row
+rowBy a m mode kind =
+    record { del = a .del; hp = m .hp; ht = a .ht; gdr = hopOf (a .del ⊗ D2R) (m .sphe); fv = a .fv; af = a .af; mode = mode; kind = kind }
 
-abbrev pub rowFrom : Float → Float → ℕ → Raw → Row
-rowFrom freq fc2 mode a = rowBy a (correctionOf freq fc2 a) mode
+abbrev pub rowFrom : Float → Float → ℕ → ℕ → Raw → Row
+rowFrom freq fc2 mode kind a = rowBy a (correctionOf freq fc2 a) mode kind
 
 -- the row of a fill, whole; delfx as written so far
 unfoldable pub rowOf : Inputs → List Float → Fill → Walk → Row
 rowOf e delfx fill w =
-    rowFrom (e .freq) (e .fc2) (modeOf fill (w .il) (e .second)) (rawOf (e .fvert) (e .hprim) (e .htrue) (e .afac) (e .ifob) (e .delpen) delfx (e .jfhz) fill w)
+    rowFrom (e .freq) (e .fc2) (modeOf fill (w .il) (e .second)) (kindOf fill) (rawOf (e .fvert) (e .hprim) (e .htrue) (e .afac) (e .ifob) (e .delpen) delfx (e .jfhz) fill w)
 
 -- lines 877 to 884; il is the walk's layer: at a row after a cusp "it is the old one"
 unfoldable pub skipOf : Skip → Row → ℕ → Skip
@@ -134,6 +141,7 @@ putOf r i t s dmaxkm =
       fvflx = set (r .fvflx) i (t .fv);
       afflx = set (r .afflx) i (t .af);
       imode = set (r .imode) i (t .mode);
+      kind = set (r .kind) i (t .kind);
       dskpkm = s .dskpkm;
       delskp = s .delskp;
       hpskp = s .hpskp;

@@ -33,6 +33,7 @@ pub(crate) struct Row {
     pub fv: f32,
     pub af: f32,
     pub mode: u32,
+    pub kind: u32,
 }
 
 // The number of a row's angle in ANG, 0 where it is none of ANG's.
@@ -132,8 +133,8 @@ pub(crate) fn correction_of(
 }
 
 // The row with its correction.
-pub(crate) fn row_of(a: Raw, m: Corrected, mode: u32) -> Row
-    ensures { λ r. ⌜ r ≡ rowBy a m mode ⌝ }
+pub(crate) fn row_of(a: Raw, m: Corrected, mode: u32, kind: u32) -> Row
+    ensures { λ r. ⌜ r ≡ rowBy a m mode kind ⌝ }
 {
     let gdr = hop(a.del * D2R, m.sphe);
     Row {
@@ -144,5 +145,6 @@ pub(crate) fn row_of(a: Raw, m: Corrected, mode: u32) -> Row
         fv: a.fv,
         af: a.af,
         mode: mode,
+        kind: kind,
     }
 }

@@ -18,6 +18,15 @@ mod walk;
 
 use checks::Admission;
 
+// The kinds of rows: read off a row of the tables, between two of them, made at a cusp, made after it. A row that was not written in the last call has 0.
+pub const KIND_EXACT: u32 = 1;
+
+pub const KIND_INTERP: u32 = 2;
+
+pub const KIND_CUSP: u32 = 3;
+
+pub const KIND_NEXT_CUSP: u32 = 4;
+
 #[repr(C)]
 pub struct Reflectrix {
     pub delfx: [f32; 45],
@@ -27,6 +36,7 @@ pub struct Reflectrix {
     pub fvflx: [f32; 45],
     pub afflx: [f32; 45],
     pub imode: [u32; 45],
+    pub kind: [u32; 45],
     pub dskpkm: f32,
     pub delskp: f32,
     pub hpskp: f32,
@@ -93,6 +103,7 @@ fn started(
     fvflx: &mut [f32; 45],
     afflx: &mut [f32; 45],
     imode: &mut [u32; 45],
+    kind: &mut [u32; 45],
     figures: Figures,
     nang: usize,
     freq: f32,
@@ -106,12 +117,13 @@ fn started(
     ifob: &[i32; 1200],
 ) -> Outcome
     requires { ⌜ Entries (now ifob) × ((nang ≤ 40) × (freqWithin freq ≡ true)) ⌝ }
-    ensures { λ r. ⌜ walkedFrom (now (delfx .exit)) (now (hpflx .exit)) (now (htflx .exit)) (now (gdflx .exit)) (now (fvflx .exit)) (now (afflx .exit)) (now (imode .exit)) r ≡ startedOf (reflectrixFrom (now (delfx .entry)) (now (hpflx .entry)) (now (htflx .entry)) (now (gdflx .entry)) (now (fvflx .entry)) (now (afflx .entry)) (now (imode .entry)) figures) nang freq amind second third (now (fvert .entry)) (now (hprim .entry)) (now (htrue .entry)) (now (afac .entry)) (now (ifob .entry)) ⌝ }
+    ensures { λ r. ⌜ walkedFrom (now (delfx .exit)) (now (hpflx .exit)) (now (htflx .exit)) (now (gdflx .exit)) (now (fvflx .exit)) (now (afflx .exit)) (now (imode .exit)) (now (kind .exit)) r ≡ startedOf (reflectrixFrom (now (delfx .entry)) (now (hpflx .entry)) (now (htflx .entry)) (now (gdflx .entry)) (now (fvflx .entry)) (now (afflx .entry)) (now (imode .entry)) (now (kind .entry)) figures) nang freq amind second third (now (fvert .entry)) (now (hprim .entry)) (now (htrue .entry)) (now (afac .entry)) (now (ifob .entry)) ⌝ }
 {
     let jfhz = jfhz(freq);
     *hpflx = [0.0; 45];
     *delfx = [0.0; 45];
     *gdflx = [0.0; 45];
+    *kind = [0; 45];
     let mut f = figures;
     f.rows_this_call = 0;
     let p = penang::penang(fvert, htrue, second, freq);
@@ -127,6 +139,7 @@ fn started(
         fvflx,
         afflx,
         imode,
+        kind,
         f,
         nang,
         freq,
@@ -152,6 +165,7 @@ pub fn findf_into(
     fvflx: &mut [f32; 45],
     afflx: &mut [f32; 45],
     imode: &mut [u32; 45],
+    kind: &mut [u32; 45],
     figures: Figures,
     k: usize,
     nang: usize,
@@ -164,7 +178,7 @@ pub fn findf_into(
     afac: &[f32; 30],
     ifob: &[i32; 1200],
 ) -> Outcome
-    ensures { λ r. ⌜ walkedFrom (now (delfx .exit)) (now (hpflx .exit)) (now (htflx .exit)) (now (gdflx .exit)) (now (fvflx .exit)) (now (afflx .exit)) (now (imode .exit)) r ≡ findfOf (reflectrixFrom (now (delfx .entry)) (now (hpflx .entry)) (now (htflx .entry)) (now (gdflx .entry)) (now (fvflx .entry)) (now (afflx .entry)) (now (imode .entry)) figures) (jobBy k nang freq amind fi (now (fvert .entry)) (now (hprim .entry)) (now (htrue .entry)) (now (afac .entry)) (now (ifob .entry))) ⌝ }
+    ensures { λ r. ⌜ walkedFrom (now (delfx .exit)) (now (hpflx .exit)) (now (htflx .exit)) (now (gdflx .exit)) (now (fvflx .exit)) (now (afflx .exit)) (now (imode .exit)) (now (kind .exit)) r ≡ findfOf (reflectrixFrom (now (delfx .entry)) (now (hpflx .entry)) (now (htflx .entry)) (now (gdflx .entry)) (now (fvflx .entry)) (now (afflx .entry)) (now (imode .entry)) (now (kind .entry)) figures) (jobBy k nang freq amind fi (now (fvert .entry)) (now (hprim .entry)) (now (htrue .entry)) (now (afac .entry)) (now (ifob .entry))) ⌝ }
 {
     let admission = checks::admission_of(
         k,
@@ -193,6 +207,7 @@ pub fn findf_into(
         fvflx,
         afflx,
         imode,
+        kind,
         figures,
         nang,
         freq,
@@ -230,6 +245,7 @@ pub fn findf(
     let mut fvflx = rfx.fvflx;
     let mut afflx = rfx.afflx;
     let mut imode = rfx.imode;
+    let mut kind = rfx.kind;
     let delpen = rfx.delpen;
     let o = findf_into(
         &mut delfx,
@@ -239,6 +255,7 @@ pub fn findf(
         &mut fvflx,
         &mut afflx,
         &mut imode,
+        &mut kind,
         Figures {
             dskpkm: rfx.dskpkm,
             delskp: rfx.delskp,
@@ -275,6 +292,7 @@ pub fn findf(
             fvflx: fvflx,
             afflx: afflx,
             imode: imode,
+            kind: kind,
             dskpkm: f.dskpkm,
             delskp: f.delskp,
             hpskp: f.hpskp,

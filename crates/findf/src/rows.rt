@@ -3,7 +3,7 @@
 ghost use mathlib.Core.Path.{_≡_};
 ghost use Prim.Native.Nat.{_+_, _≤_, _<_};
 ghost use Rattle.findf.specs.Walk.{ANG, backOf, afterOf};
-ghost use Rattle.findf.specs.Rows.{gapOf, slopeOf, rawAt, rawBetween, nextModeOf, modeOf, rawOf};
+ghost use Rattle.findf.specs.Rows.{gapOf, slopeOf, rawAt, rawBetween, nextModeOf, modeOf, kindOf, rawOf};
 ghost use Rattle.findf.specs.Requires.{Entries, Safe};
 use super::look;
 use super::walk::Fill;
@@ -18,10 +18,11 @@ pub(crate) struct Raw {
     pub af: f32,
 }
 
-// A fill: its row before the correction, the row's layer, and how the walk goes on, with the angles given back.
+// A fill: its row before the correction, the row's layer and kind, and how the walk goes on, with the angles given back.
 pub(crate) struct Filling {
     pub raw: Raw,
     pub mode: u32,
+    pub kind: u32,
     pub back: usize,
     pub after: Label,
 }
@@ -112,7 +113,7 @@ pub(crate) fn filling_of(
 ) -> Filling
     requires { ⌜ (now ang ≡ ANG) × (Entries (now ifob) × ((jfhz ≤ 99999) × Safe (Label.Fill fill) w)) ⌝ }
     ensures { λ r. ⌜ (r .raw ≡ rawOf (now (fvert .entry)) (now (hprim .entry)) (now (htrue .entry)) (now (afac .entry)) (now (ifob .entry)) (now (delpen .entry)) (now (delfx .entry)) jfhz fill w)
-        × ((r .mode ≡ modeOf fill (w .il) second) × ((r .back ≡ backOf fill) × (r .after ≡ afterOf fill))) ⌝ }
+        × ((r .mode ≡ modeOf fill (w .il) second) × ((r .kind ≡ kindOf fill) × ((r .back ≡ backOf fill) × (r .after ≡ afterOf fill)))) ⌝ }
 {
     let ia = w.ia;
     let ih = w.ih;
@@ -125,6 +126,7 @@ pub(crate) fn filling_of(
             Filling {
                 raw: raw,
                 mode: il as u32,
+                kind: super::KIND_EXACT,
                 back: 0,
                 after: Label::Search,
             }
@@ -136,6 +138,7 @@ pub(crate) fn filling_of(
             Filling {
                 raw: raw,
                 mode: il as u32,
+                kind: super::KIND_INTERP,
                 back: 0,
                 after: Label::Search,
             }
@@ -145,6 +148,7 @@ pub(crate) fn filling_of(
             Filling {
                 raw: raw,
                 mode: il as u32,
+                kind: super::KIND_CUSP,
                 back: 1,
                 after: Label::NextCusp,
             }
@@ -154,6 +158,7 @@ pub(crate) fn filling_of(
             Filling {
                 raw: raw,
                 mode: next_mode(il as u32, second),
+                kind: super::KIND_NEXT_CUSP,
                 back: 0,
                 after: Label::NextLayer,
             }

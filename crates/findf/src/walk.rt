@@ -4,12 +4,14 @@ ghost use mathlib.Core.Path.{_≡_};
 ghost use Prim.Native.Nat.{_≤_, _<_};
 ghost use Rattle.findf.specs.Walk.{ANG, withLabel, lookedAt, layer, searchOf, nextLayerOf, nextCuspOf, afterOf, backOf, filledOf};
 ghost use Rattle.findf.specs.Requires.{Entries, Safe};
+ghost use Rattle.findf.specs.Rows.{putOf};
 ghost use Rattle.findf.specs.Inputs.{inputsOf};
 ghost use Rattle.findf.specs.Findf.{walkedOf};
 ghost use Rattle.findf.specs.Lent.{reflectrixFrom, walkedFrom};
 use super::Figures;
 use super::Outcome;
 use super::correction;
+use super::correction::Row;
 use super::look;
 use super::look::Looked;
 use super::rows;
@@ -225,6 +227,49 @@ pub(crate) fn filled(fill: Fill, b: usize, l: Label, w: Walk) -> Walk
     }
 }
 
+// Row i written into the columns; the figures after it.
+fn put_row(
+    delfx: &mut [f32; 45],
+    hpflx: &mut [f32; 45],
+    htflx: &mut [f32; 45],
+    gdflx: &mut [f32; 45],
+    fvflx: &mut [f32; 45],
+    afflx: &mut [f32; 45],
+    imode: &mut [u32; 45],
+    kind: &mut [u32; 45],
+    figures: Figures,
+    i: usize,
+    t: Row,
+    s: Skip,
+    dmaxkm: f32,
+) -> Figures
+    requires { ⌜ i < 45 ⌝ }
+    ensures { λ r. ⌜ reflectrixFrom (now (delfx .exit)) (now (hpflx .exit)) (now (htflx .exit)) (now (gdflx .exit)) (now (fvflx .exit)) (now (afflx .exit)) (now (imode .exit)) (now (kind .exit)) r ≡ putOf (reflectrixFrom (now (delfx .entry)) (now (hpflx .entry)) (now (htflx .entry)) (now (gdflx .entry)) (now (fvflx .entry)) (now (afflx .entry)) (now (imode .entry)) (now (kind .entry)) figures) i t s dmaxkm ⌝ }
+{
+    delfx[i] = t.del;
+    hpflx[i] = t.hp;
+    htflx[i] = t.ht;
+    gdflx[i] = t.gdr;
+    fvflx[i] = t.fv;
+    afflx[i] = t.af;
+    imode[i] = t.mode;
+    kind[i] = t.kind;
+    let delpen = figures.delpen;
+    let count = i + 1;
+    Figures {
+        dskpkm: s.dskpkm,
+        delskp: s.delskp,
+        hpskp: s.hpskp,
+        htskp: s.htskp,
+        dmaxkm: dmaxkm,
+        fvskp: s.fvskp,
+        iskp: s.iskp,
+        delpen: delpen,
+        iaftxr: count,
+        rows_this_call: count,
+    }
+}
+
 // The walk from its start to Done, a row written in place at each fill.
 pub(crate) fn walk_rows(
     delfx: &mut [f32; 45],
@@ -234,6 +279,7 @@ pub(crate) fn walk_rows(
     fvflx: &mut [f32; 45],
     afflx: &mut [f32; 45],
     imode: &mut [u32; 45],
+    kind: &mut [u32; 45],
     figures: Figures,
     nang: usize,
     freq: f32,
@@ -249,7 +295,7 @@ pub(crate) fn walk_rows(
     ifob: &[i32; 1200],
 ) -> Outcome
     requires { ⌜ Entries (now ifob) × ((nang ≤ 40) × (jfhz ≤ 99999)) ⌝ }
-    ensures { λ r. ⌜ walkedFrom (now (delfx .exit)) (now (hpflx .exit)) (now (htflx .exit)) (now (gdflx .exit)) (now (fvflx .exit)) (now (afflx .exit)) (now (imode .exit)) r ≡ walkedOf (inputsOf nang freq amind jfhz second fc2 (now (delpen .entry)) (now (fvert .entry)) (now (hprim .entry)) (now (htrue .entry)) (now (afac .entry)) (now (ifob .entry))) (reflectrixFrom (now (delfx .entry)) (now (hpflx .entry)) (now (htflx .entry)) (now (gdflx .entry)) (now (fvflx .entry)) (now (afflx .entry)) (now (imode .entry)) figures) ⌝ }
+    ensures { λ r. ⌜ walkedFrom (now (delfx .exit)) (now (hpflx .exit)) (now (htflx .exit)) (now (gdflx .exit)) (now (fvflx .exit)) (now (afflx .exit)) (now (imode .exit)) (now (kind .exit)) r ≡ walkedOf (inputsOf nang freq amind jfhz second fc2 (now (delpen .entry)) (now (fvert .entry)) (now (hprim .entry)) (now (htrue .entry)) (now (afac .entry)) (now (ifob .entry))) (reflectrixFrom (now (delfx .entry)) (now (hpflx .entry)) (now (htflx .entry)) (now (gdflx .entry)) (now (fvflx .entry)) (now (afflx .entry)) (now (imode .entry)) (now (kind .entry)) figures) ⌝ }
 {
     let ang = &ANG;
     let mut ahead = correction::ahead_of(ang, 0);
@@ -298,7 +344,7 @@ pub(crate) fn walk_rows(
                 let m = correction::correction_of(raw, freq, fc2, fill, w.ia, ahead);
                 // Before the arcsine, whose answer takes long: the processor works at both.
                 ahead = correction::ahead_of(ang, w.ia);
-                let t = correction::row_of(raw, m, q.mode);
+                let t = correction::row_of(raw, m, q.mode, q.kind);
                 let s = skip::skip_of(
                     Skip {
                         dskpkm: f.dskpkm,
@@ -312,23 +358,21 @@ pub(crate) fn walk_rows(
                     il as u32,
                 );
                 let d = skip::far(f.dmaxkm, t.gdr, t.del, amind);
-                delfx[i] = t.del;
-                hpflx[i] = t.hp;
-                htflx[i] = t.ht;
-                gdflx[i] = t.gdr;
-                fvflx[i] = t.fv;
-                afflx[i] = t.af;
-                imode[i] = t.mode;
-                f.dskpkm = s.dskpkm;
-                f.delskp = s.delskp;
-                f.hpskp = s.hpskp;
-                f.htskp = s.htskp;
-                f.fvskp = s.fvskp;
-                f.iskp = s.iskp;
-                f.dmaxkm = d;
-                let count = i + 1;
-                f.iaftxr = count;
-                f.rows_this_call = count;
+                f = put_row(
+                    delfx,
+                    hpflx,
+                    htflx,
+                    gdflx,
+                    fvflx,
+                    afflx,
+                    imode,
+                    kind,
+                    f,
+                    i,
+                    t,
+                    s,
+                    d,
+                );
                 w = filled(fill, q.back, after, w);
             }
             Label::Done => {

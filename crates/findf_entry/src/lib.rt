@@ -15,6 +15,7 @@ pub extern "C" fn ray_findf_into(
     fvflx: &mut [f32; 45],
     afflx: &mut [f32; 45],
     imode: &mut [u32; 45],
+    kind: &mut [u32; 45],
     figures: Figures,
     k: usize,
     nang: usize,
@@ -27,8 +28,8 @@ pub extern "C" fn ray_findf_into(
     afac: &[f32; 30],
     ifob: &[i32; 1200],
 ) -> Outcome
-    ensures { λ r. ⌜ walkedFrom (now (delfx .exit)) (now (hpflx .exit)) (now (htflx .exit)) (now (gdflx .exit)) (now (fvflx .exit)) (now (afflx .exit)) (now (imode .exit)) r
-        ≡ findfOf (reflectrixFrom (now (delfx .entry)) (now (hpflx .entry)) (now (htflx .entry)) (now (gdflx .entry)) (now (fvflx .entry)) (now (afflx .entry)) (now (imode .entry)) figures) (jobBy k nang freq amind (now (fi .entry)) (now (fvert .entry)) (now (hprim .entry)) (now (htrue .entry)) (now (afac .entry)) (now (ifob .entry))) ⌝ }
+    ensures { λ r. ⌜ walkedFrom (now (delfx .exit)) (now (hpflx .exit)) (now (htflx .exit)) (now (gdflx .exit)) (now (fvflx .exit)) (now (afflx .exit)) (now (imode .exit)) (now (kind .exit)) r
+        ≡ findfOf (reflectrixFrom (now (delfx .entry)) (now (hpflx .entry)) (now (htflx .entry)) (now (gdflx .entry)) (now (fvflx .entry)) (now (afflx .entry)) (now (imode .entry)) (now (kind .entry)) figures) (jobBy k nang freq amind (now (fi .entry)) (now (fvert .entry)) (now (hprim .entry)) (now (htrue .entry)) (now (afac .entry)) (now (ifob .entry))) ⌝ }
 {
     findf::findf_into(
         delfx,
@@ -38,6 +39,7 @@ pub extern "C" fn ray_findf_into(
         fvflx,
         afflx,
         imode,
+        kind,
         figures,
         k,
         nang,

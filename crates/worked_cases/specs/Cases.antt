@@ -16,7 +16,7 @@ use Rattle.job.specs.Solved.{Solved, noSlots, solvedOf}
 -- what a case says of the answer: rows and looks of a walk, angles and figures of its reflectrix, pairs and rays of a search, angles, heights and layers of its slots; a place counts from 0
 pub data Field : Type 0 where
   rows looks dskpkm dmaxkm pairs rays : Field
-  delpen delfx imode delmod hpmod itmod : ℕ → Field
+  delpen delfx imode kind delmod hpmod itmod : ℕ → Field
 
 pub data Case : Type 0 where
   -- ypx; the curve there
@@ -73,7 +73,8 @@ cases =
     ((delpen 0, 0x42b3_cccd) ∷ (delpen 1, 0x42b4_0000) ∷ (delpen 2, 0x42b4_0000) ∷ (dskpkm, 0x461c_4000) ∷ (dmaxkm, 0) ∷ [])
     -- "the same, nang 1: 10 looks, 0 rows; nang 40: 48 looks, 1 row at 89.9, layer 1"
     ∷ job 0x4000_0000 1 ((looks, 10) ∷ (rows, 0) ∷ [])
-    ∷ job 0x4000_0000 40 ((looks, 48) ∷ (rows, 1) ∷ (delfx 0, 0x42b3_cccd) ∷ (imode 0, 1) ∷ [])
+    -- and by order 2 it is of kind 3, a cusp's: no sentence of document 01
+    ∷ job 0x4000_0000 40 ((looks, 48) ∷ (rows, 1) ∷ (delfx 0, 0x42b3_cccd) ∷ (imode 0, 1) ∷ (kind 0, 3) ∷ [])
     -- "lengths 3185, 4000: row 1, 1 pair. 1000, 3185, 4000: row 2, 1 pair. 1000, 1000: row 1. 3185, 3185: none."
     ∷ search (3185·0 ∷ 4000·0 ∷ []) 5000·0 0 (row 1 ++ (pairs, 1) ∷ [])
     ∷ search (1000·0 ∷ 3185·0 ∷ 4000·0 ∷ []) 5000·0 0 (row 2 ++ (pairs, 1) ∷ [])
@@ -112,6 +113,7 @@ rowsOf gs far =
       fvflx = zeros 45;
       afflx = zeros 45;
       imode = filledUp (numbered 0 gs) 0;
+      kind = replicate 45 0;
       dskpkm = f32 0;
       delskp = f32 0;
       hpskp = f32 0;
@@ -155,6 +157,7 @@ word s rays = s .rays
 word s (delpen k) = bits (getD (s .rfx .delpen) k nan)
 word s (delfx k) = bits (getD (s .rfx .delfx) k nan)
 word s (imode k) = getD (s .rfx .imode) k 0
+word s (kind k) = getD (s .rfx .kind) k 0
 word s (delmod k) = bits (getD (s .slots .delmod) k nan)
 word s (hpmod k) = bits (getD (s .slots .hpmod) k nan)
 word s (itmod k) = getD (s .slots .itmod) k 0

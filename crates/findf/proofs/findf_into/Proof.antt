@@ -22,10 +22,10 @@ returns c = refuses _ _ (c .before .before .before .admission-of .ensures) (c .n
 
 started-requires : tie.Need-started-requires
 unfolding admissionOf
-started-requires c κs = fit _ (unrefused _ _ _ (sym (c .before .before .before .before .before .before .before .before .admission .given .1) ∙ c .before .before .before .before .before .before .before .before .before .before .admission-of .ensures))
+started-requires c κs = fit _ (unrefused _ _ _ (sym (c .before .before .before .before .before .before .before .before .before .admission .given .1) ∙ c .before .before .before .before .before .before .before .before .before .before .before .admission-of .ensures))
 
 returns-2 : tie.Need-returns-2
-returns-2 c = c .started .ensures ∙ walks _ _ (c .before .before .before .before .before .before .before .before .before .before .before .admission-of .ensures) (c .before .before .before .before .before .before .before .before .before .admission .given .1)
+returns-2 c = c .started .ensures ∙ walks _ _ (c .before .before .before .before .before .before .before .before .before .before .before .before .admission-of .ensures) (c .before .before .before .before .before .before .before .before .before .before .admission .given .1)
 
 pub findf-into-spec : {M : Type 1} → statement M
 findf-into-spec =

@@ -19,14 +19,14 @@ unless-requires-2 c κs = search needs
 
 walk-rows-requires : tie.Need-walk-rows-requires
 walk-rows-requires c κs =
-    let first = c .before .before .before .before .before .before .before .before .before .before .before .before .before .before .before in
+    let first = c .before .before .before .before .before .before .before .before .before .before .before .before .before .before .before .before .before in
     (first .before .pre .0, (first .before .pre .1 .0, omega (arith, first .jfhz .ensures .1)))
 
 returns : tie.Need-returns
 returns c =
-    let second = c .before .before .before .before .before .before .before .before .before in
+    let second = c .before .before .before .before .before .before .before .before .before .before in
     let first = second .before .before .before in
-    c .walk-rows .ensures ∙ begins _ _ _ _ _ _ _ _ _ _ _ (first .before .before .before .before .jfhz .ensures .0) (first .penang .ensures) (second .before .unless .ensures) (second .unless2 .ensures)
+    c .walk-rows .ensures ∙ begins _ _ _ _ _ _ _ _ _ _ _ (first .before .before .before .before .before .jfhz .ensures .0) (first .penang .ensures) (second .before .unless .ensures) (second .unless2 .ensures)
 
 pub started-spec : {M : Type 1} → statement M
 started-spec =

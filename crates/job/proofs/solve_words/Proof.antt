@@ -107,9 +107,9 @@ solve-requires c κs = search needs
 -- src/lib.rt:211:1
 returns : tie.Need-returns
 returns c =
-    let tables = c .before .before .before .before .before .before .before .before .before .before .before .before .before .before in
+    let tables = c .before .before .before .before .before .before .before .before .before .before .before .before .before .before .before in
     let numbers = tables .before .before .before .before .before in
-    solved-words _ _ _ _ _ _ _ _ _ _ (c .solve .ensures) (c .before .before .before .before .before .before .no-figures .ensures)
+    solved-words _ _ _ _ _ _ _ _ _ _ _ (c .solve .ensures) (c .before .before .before .before .before .before .no-figures .ensures)
     (parts-are _
     (numbers .before .before .before .before .before .count-at .ensures)
     (numbers .before .before .before .before .count-at2 .ensures)

@@ -118,19 +118,19 @@ next-mode-requires c κs = search needs
 
 returns : tie.Need-returns
 unfolding rawOf angOf
-returns c = simp (c .before .before .enum-told .given .1, ← c .before .before .before .before .pre .0, ← c .raw-at .ensures) (refl, (refl, (refl, refl)))
+returns c = simp (c .before .before .enum-told .given .1, ← c .before .before .before .before .pre .0, ← c .raw-at .ensures) (refl, (refl, (refl, (refl, refl))))
 
 returns-2 : tie.Need-returns-2
 unfolding rawOf angOf
-returns-2 c = simp (c .before .before .before .before .before .enum-told2 .given .1, ← c .before .before .before .before .entry .ensures, ← c .before .before .before .entry2 .ensures, ← c .before .before .slope .ensures, ← c .before .before .before .before .before .before .before .pre .0, ← c .raw-between .ensures) (refl, (refl, (refl, refl)))
+returns-2 c = simp (c .before .before .before .before .before .enum-told2 .given .1, ← c .before .before .before .before .entry .ensures, ← c .before .before .before .entry2 .ensures, ← c .before .before .slope .ensures, ← c .before .before .before .before .before .before .before .pre .0, ← c .raw-between .ensures) (refl, (refl, (refl, (refl, refl))))
 
 returns-3 : tie.Need-returns-3
 unfolding rawOf
-returns-3 c = simp (c .before .before .enum-told3 .given .1, ← c .raw-at2 .ensures) (refl, (refl, (refl, refl)))
+returns-3 c = simp (c .before .before .enum-told3 .given .1, ← c .raw-at2 .ensures) (refl, (refl, (refl, (refl, refl))))
 
 returns-4 : tie.Need-returns-4
 unfolding rawOf
-returns-4 c = simp (c .before .before .before .enum-told4 .given .1, ← c .before .raw-at3 .ensures, ← c .next-mode .ensures) (refl, (refl, (refl, refl)))
+returns-4 c = simp (c .before .before .before .enum-told4 .given .1, ← c .before .raw-at3 .ensures, ← c .next-mode .ensures) (refl, (refl, (refl, (refl, refl))))
 
 pub filling-of-spec : {M : Type 1} → statement M
 filling-of-spec =

@@ -15,14 +15,14 @@ use Rattle.findf.proofs.walk.walk_rows.Statement.{statement}
 use Rattle.findf.proofs.walk.walk_rows.Tie as tie
 
 abbrev Inv-loop : tie.InvT-loop
-Inv-loop delfx₀ hpflx₀ htflx₀ gdflx₀ fvflx₀ afflx₀ imode₀ nang freq amind jfhz second fc2 delpen fvert hprim htrue afac ifob ang ahead₀ f₀ w₀ delfx hpflx htflx gdflx fvflx afflx imode ahead f w =
+Inv-loop delfx₀ hpflx₀ htflx₀ gdflx₀ fvflx₀ afflx₀ imode₀ kind₀ nang freq amind jfhz second fc2 delpen fvert hprim htrue afac ifob ang ahead₀ f₀ w₀ delfx hpflx htflx gdflx fvflx afflx imode kind ahead f w =
     let e = inputsOf nang freq amind jfhz second fc2 delpen fvert hprim htrue afac ifob in
-    let r₀ = reflectrixFrom delfx₀ hpflx₀ htflx₀ gdflx₀ fvflx₀ afflx₀ imode₀ f₀ in
-    let r = reflectrixFrom delfx hpflx htflx gdflx fvflx afflx imode f in
+    let r₀ = reflectrixFrom delfx₀ hpflx₀ htflx₀ gdflx₀ fvflx₀ afflx₀ imode₀ kind₀ f₀ in
+    let r = reflectrixFrom delfx hpflx htflx gdflx fvflx afflx imode kind f in
     Good nang w × (Leads (turnOf e) (start, r₀) (μ (w .label) w) (w, r) (walkOf e r₀) × Foreseen ahead)
 
 abbrev μ-loop : tie.MeasureT-loop
-μ-loop delfx₀ hpflx₀ htflx₀ gdflx₀ fvflx₀ afflx₀ imode₀ nang freq amind jfhz second fc2 delpen fvert hprim htrue afac ifob ang ahead₀ f₀ w₀ delfx hpflx htflx gdflx fvflx afflx imode ahead f w = μ (w .label) w
+μ-loop delfx₀ hpflx₀ htflx₀ gdflx₀ fvflx₀ afflx₀ imode₀ kind₀ nang freq amind jfhz second fc2 delpen fvert hprim htrue afac ifob ang ahead₀ f₀ w₀ delfx hpflx htflx gdflx fvflx afflx imode kind ahead f w = μ (w .label) w
 
 ahead-of-requires : tie.Need-ahead-of-requires Inv-loop μ-loop
 unfolding ANG
@@ -105,62 +105,26 @@ far-requires c κs = search needs
 bounds : (c : tie.After-far Inv-loop μ-loop) → Good (c .before .before .before .before .before .before .before .before .before .before .before .before .before .before .args .nang) (c .before .before .before .before .before .before .before .before .before .before .before .loop .w)
 bounds c = c .before .before .before .before .before .before .before .before .before .before .before .loop .inv .0
 
-mul-delfx : tie.Need-mul-delfx Inv-loop μ-loop
-mul-delfx c = omega (arith, bounds c)
-
-element-write-delfx : tie.Need-element-write-delfx Inv-loop μ-loop
-element-write-delfx c = omega (arith, bounds c)
-
-mul-hpflx : tie.Need-mul-hpflx Inv-loop μ-loop
-mul-hpflx c = omega (arith, bounds c)
-
-element-write-hpflx : tie.Need-element-write-hpflx Inv-loop μ-loop
-element-write-hpflx c = omega (arith, bounds c)
-
-mul-htflx : tie.Need-mul-htflx Inv-loop μ-loop
-mul-htflx c = omega (arith, bounds c)
-
-element-write-htflx : tie.Need-element-write-htflx Inv-loop μ-loop
-element-write-htflx c = omega (arith, bounds c)
-
-mul-gdflx : tie.Need-mul-gdflx Inv-loop μ-loop
-mul-gdflx c = omega (arith, bounds c)
-
-element-write-gdflx : tie.Need-element-write-gdflx Inv-loop μ-loop
-element-write-gdflx c = omega (arith, bounds c)
-
-mul-fvflx : tie.Need-mul-fvflx Inv-loop μ-loop
-mul-fvflx c = omega (arith, bounds c)
-
-element-write-fvflx : tie.Need-element-write-fvflx Inv-loop μ-loop
-element-write-fvflx c = omega (arith, bounds c)
-
-mul-afflx : tie.Need-mul-afflx Inv-loop μ-loop
-mul-afflx c = omega (arith, bounds c)
-
-element-write-afflx : tie.Need-element-write-afflx Inv-loop μ-loop
-element-write-afflx c = omega (arith, bounds c)
-
-mul-imode : tie.Need-mul-imode Inv-loop μ-loop
-mul-imode c = omega (arith, bounds c)
-
-element-write-imode : tie.Need-element-write-imode Inv-loop μ-loop
-element-write-imode c = omega (arith, bounds c)
-
-add-count : tie.Need-add-count Inv-loop μ-loop
-add-count c = omega (arith, bounds c)
+put-row-requires : tie.Need-put-row-requires Inv-loop μ-loop
+put-row-requires c κs = omega (arith, bounds (c .before .before .before .before .before .before .before .before))
 
 filled-requires : tie.Need-filled-requires Inv-loop μ-loop
-filled-requires c κs = (c .before .before .before .before .before .before .filling-of .ensures .1 .1, subst (λ (l : Label). Safe l (c .before .before .before .before .before .before .before .before .before .before .before .loop .w)) (c .before .before .before .before .before .before .before .before .before .label .given .1) (good-safe (bounds c)))
+filled-requires c κs =
+    let after = c .before .before .before .before .before .before .before .before .before in
+    (after .before .before .before .before .before .before .filling-of .ensures .1 .1 .1, subst (λ (l : Label). Safe l (after .before .before .before .before .before .before .before .before .before .before .before .loop .w)) (after .before .before .before .before .before .before .before .before .before .label .given .1) (good-safe (bounds after)))
 
 loop-less-4 : tie.Need-loop-less-4 Inv-loop μ-loop
-loop-less-4 c = steps-fine (c .before .before .before .before .before .before .before .before .before .before .label .given .1) (c .before .before .before .before .before .before .before .before .before .before .before .before .loop .inv .0) (c .filled .ensures) (filled-fine _ _ _) .falls
+loop-less-4 c =
+    let after = c .before .before .before .before .before .before .before .before .before .before in
+    steps-fine (after .before .before .before .before .before .before .before .before .before .label .given .1) (bounds after) (c .filled .ensures) (filled-fine _ _ _) .falls
 
 loop-again-4 : tie.Need-loop-again-4 Inv-loop μ-loop
 loop-again-4 c =
-    let f = steps-fine (c .before .before .before .before .before .before .before .before .before .before .label .given .1) (c .before .before .before .before .before .before .before .before .before .before .before .before .loop .inv .0) (c .filled .ensures) (filled-fine _ _ _) in
-    let step = fills _ _ _ (c .before .before .before .before .before .before .before .before .before .before .label .given .1) (c .before .before .before .before .before .before .before .filling-of .ensures) (c .before .before .before .before .before .correction-of .ensures) (c .before .before .before .row-of .ensures) (c .before .before .skip-of .ensures) (c .before .far .ensures) (c .filled .ensures) in
-    (f .good, (leads-more (c .before .before .before .before .before .before .before .before .before .before .before .before .loop .inv .1 .0) step (f .falls), c .before .before .before .before .ahead-of2 .ensures))
+    let after = c .before .before .before .before .before .before .before .before .before .before in
+    let fill = after .before .before .before .before .before .before .before .before .before .label .given .1 in
+    let f = steps-fine fill (bounds after) (c .filled .ensures) (filled-fine _ _ _) in
+    let step = fills _ _ _ fill (after .before .before .before .before .before .before .filling-of .ensures) (after .before .before .before .before .correction-of .ensures) (after .before .before .row-of .ensures) (after .before .skip-of .ensures) (after .far .ensures) (c .before .put-row .ensures) (c .filled .ensures) in
+    (f .good, (leads-more (after .before .before .before .before .before .before .before .before .before .before .before .loop .inv .1 .0) step (f .falls), after .before .before .before .ahead-of2 .ensures))
 
 enum-told-4 : tie.Need-enum-told-4 Inv-loop μ-loop
 enum-told-4 c = search needs
@@ -197,21 +161,7 @@ walk-rows-spec =
     cast-skip-of
     skip-of-requires
     far-requires
-    mul-delfx
-    element-write-delfx
-    mul-hpflx
-    element-write-hpflx
-    mul-htflx
-    element-write-htflx
-    mul-gdflx
-    element-write-gdflx
-    mul-fvflx
-    element-write-fvflx
-    mul-afflx
-    element-write-afflx
-    mul-imode
-    element-write-imode
-    add-count
+    put-row-requires
     filled-requires
     loop-less-4
     loop-again-4
