@@ -1,2 +1,3 @@
 pub mod PlaceLaws
 pub mod Demand3Laws
+pub mod KindsLaws

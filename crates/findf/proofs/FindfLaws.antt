@@ -3,8 +3,6 @@
 -- turns of the inner loop, rows the steps that write one. `row-written`: each fill's row is in the answer. `row-number`: its number, counted from 0, is
 -- that of the fills before it.
 use mathlib.Core.Path.{_≡_, refl, sym, subst, _∙_}
-use mathlib.Core.Bool.{Bool, true, false}
-use mathlib.Core.List.{List, [], _∷_}
 use Prim.Native.Nat.{ℕ, zero, suc, _+_, _≤_, _<_}
 use native.Mathlib.Nat.{zero-add}
 use native.Mathlib.Omega.{arith}
@@ -12,11 +10,11 @@ use lib.ListN.{getD}
 use lib.Ieee.{nan}
 use borrow.Author.Tests.{leb-true}
 use Rattle.arith.specs.Numbers.{0·0}
-use Rattle.arith.specs.Run.{count, iterate}
+use Rattle.arith.specs.Run.{count}
 use Rattle.limits.specs.Limits.{broken}
 use Rattle.limits.proofs.LimitsLaws.{unbroken}
 use Rattle.findf.specs.Walk.{start}
-use Rattle.findf.specs.Findf.{State, stepOf, turnOf, walkOf, walkedOf, anglesOf, limitsOf, findfBy, findfOf, walkSteps}
+use Rattle.findf.specs.Findf.{State, turnOf, walkOf, walkedOf, anglesOf, limitsOf, findfBy, findfOf, walkSteps}
 use Rattle.findf.specs.Inputs.{Job, Inputs}
 use Rattle.findf.specs.Demand as demand
 use Rattle.findf.specs.Demand.{looksDue, rowsDue, rowAt, RowIs}
@@ -62,11 +60,13 @@ module _ (r : Reflectrix) (j : Job) where
     unfolding findfOf findfBy
     findf-walks = rw ok
 
+    -- what lies beyond the rows written
+    pub walk-beyond : Beyond (walkOf read first)
+    walk-beyond = subst Beyond (sym (walk-iterate read nang-cap first walkSteps (omega arith))) (beyond-zero read first (begun-beyond r (anglesOf j)) walkSteps)
+
     -- the reflectrix counts its rows as the walk does
     pub rows-counted : walkOf read first .1 .«rows_this_call» ≡ walkOf read first .0 .rows
-    rows-counted =
-        subst (λ (s : State). s .1 .«rows_this_call» ≡ s .0 .rows) (sym (walk-iterate read nang-cap first walkSteps (omega arith)))
-        (beyond-zero read first (begun-beyond r (anglesOf j)) walkSteps .counted)
+    rows-counted = walk-beyond .counted
 
     -- "looks ≤ nang + 28" and "rows ≤ nang + 4"
     pub looks-few : answerOf .looks ≤ j .nang + 28
@@ -99,9 +99,12 @@ module _ (r : Reflectrix) (j : Job) where
     -- heights are +0 from the first row that is not written on
     pub answer-beyond : (i : ℕ) → answerOf .rfx .«rows_this_call» ≤ i → i < 45 → getD (answerOf .rfx .hpflx) i nan ≡ 0·0
     unfolding walkedOf
-    answer-beyond i h l =
-        let b : Beyond (walkOf read first) = subst Beyond (sym (walk-iterate read nang-cap first walkSteps (omega arith))) (beyond-zero read first (begun-beyond r (anglesOf j)) walkSteps) in
-        rw findf-walks (b .zero-hp i (omega (arith, rows-counted, rw findf-walks at h)) l)
+    answer-beyond i h l = rw findf-walks (walk-beyond .zero-hp i (omega (arith, rows-counted, rw findf-walks at h)) l)
+
+    -- and so are the kinds
+    pub kind-beyond : (i : ℕ) → answerOf .rfx .«rows_this_call» ≤ i → i < 45 → getD (answerOf .rfx .kind) i 0 ≡ 0
+    unfolding walkedOf
+    kind-beyond i h l = rw findf-walks (walk-beyond .zero-kind i (omega (arith, rows-counted, rw findf-walks at h)) l)
 
     -- columns of 45 rows stay so
     pub answer-sized : Sized r → Sized (answerOf .rfx)

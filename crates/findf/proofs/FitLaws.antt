@@ -1,26 +1,23 @@
 -- Every number that a walk leaves in its columns is one of f32, and every layer and kind is small: so they come back from their words. Assumes nothing.
-use mathlib.Core.Path.{_≡_, refl, sym, ap, subst, _∙_}
+use mathlib.Core.Path.{_≡_, refl, sym, subst}
 use mathlib.Core.Bool.{Bool, true, false, cond}
 use mathlib.Core.List.{List, [], _∷_, map}
 use Prim.Native.Nat.{ℕ, zero, suc, _+_, _-_, _≤_}
 use native.Mathlib.Omega.{arith}
-use lib.Dec.{T, leb, eqb}
+use lib.Dec.{T, leb}
 use lib.ListN.{getD, set, replicate}
-use lib.IntN.{ℤ}
 use lib.Ieee.{Float, nan, inf, fin, binary32, fits, neg, lt, le}
 use lib.Ieee.Bits.{ofBits-fits}
-use lib.Ieee.Fits.{nan-fits, inf-fits, neg-fits, add-fits, mul-fits, div-fits}
+use lib.Ieee.Fits.{nan-fits, inf-fits, neg-fits, add-fits, mul-fits}
 use Rattle.arith.specs.Floats.{f32, _⊕_, _⊖_, _⊗_, _⊘_, RZ, R2D, absOf}
 use Rattle.arith.specs.Numbers.{0·0, 0·0001, 0·9999, 0·999999, 1·0, 89·9, 90·0}
-use Rattle.arith.specs.Run.{iterate}
 use Rattle.arith.proofs.RunLaws.{iterate-keeps}
-use Rattle.limits.specs.Limits.{broken}
 use Rattle.root.specs.Root.{sqrtOf}
 use Rattle.angles.specs.Arccosine.{acosOf}
 use Rattle.penang.specs.Penang.{fratOf, angleOf, cuspOf, xmOf, cdelOf, penetration, topOf, f2Of, f1Of, penangOf}
 use Rattle.findf.specs.Walk.{ANG, angOf, start, searchBy, searchOf, nextLayerBy, nextLayerOf, nextCuspBy, nextCuspOf, filledBy, filledOf}
-use Rattle.findf.specs.Rows.{rawOf, nextModeOf, modeOf, kindOf, highOf, correctedOf, rowOf}
-use Rattle.findf.specs.Findf.{State, fillOf, stepBy, stepOf, begun, walkOf, walkedOf, limitsOf, anglesOf, findfOf, walkSteps}
+use Rattle.findf.specs.Rows.{rawOf, nextModeOf, highOf, correctedOf, rowOf}
+use Rattle.findf.specs.Findf.{State, fillOf, stepBy, stepOf, begun, walkedOf, anglesOf, findfOf, walkSteps}
 use Rattle.findf.specs.Inputs.{Job, secondOf, Inputs}
 use Rattle.findf.proofs.StepLaws.{walk-iterate}
 use Rattle.findf.specs.Demand as demand
@@ -33,7 +30,6 @@ use Rattle.findf.specs.declared.walk.Label.{Label}
 use Rattle.findf.specs.declared.walk.Label.the-variants.{Search, NextLayer, Fill, NextCusp, Done}
 use Rattle.findf.specs.declared.walk.Fill as F
 use Rattle.findf.specs.declared.walk.Fill.the-variants.{Exact, Interp, Cusp, NextCusp360}
-use Rattle.findf.specs.declared.rows.Raw.{Raw}
 use Rattle.findf.specs.declared.correction.Row.{Row}
 use Rattle.findf.specs.declared.Reflectrix.{Reflectrix}
 

@@ -4,6 +4,7 @@ pub mod StepLaws
 pub mod RowsLaws
 pub mod FindfLaws
 pub mod FitLaws
+pub mod KindLaws
 pub mod Entry
 pub mod Cut
 pub mod Accepted

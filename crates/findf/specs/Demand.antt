@@ -1,9 +1,9 @@
--- Document 01, "The words of demand 3", of a walk: "Looks are the turns of the inner loop, rows those written". What each step adds to the two counts, the walk's start, the state after n
--- steps, and the row that a fill writes.
+-- Document 01, "The words of demand 3", of a walk: "Looks are the turns of the inner loop, rows those written". What each step adds to the two counts, the kind of the row that it writes,
+-- the walk's start, the state after n steps, and the row that a fill writes.
 use mathlib.Core.Path.{_≡_}
 use mathlib.Core.Bool.{Bool, true, false}
-use mathlib.Core.List.{List}
-use Prim.Native.Nat.{ℕ, suc, _-_, _*_}
+use mathlib.Core.List.{List, [], _∷_}
+use Prim.Native.Nat.{ℕ, zero, suc, _-_, _*_}
 use lib.Dec.{leb}
 use lib.ListN.{getD}
 use lib.IntN.{ℤ}
@@ -14,7 +14,7 @@ use Rattle.arith.specs.Run.{count, iterate}
 use Rattle.findf.specs.Inputs.{Job, Inputs}
 use Rattle.findf.specs.Look.{lookOf}
 use Rattle.findf.specs.Walk.{angOf, start}
-use Rattle.findf.specs.Rows.{rowOf}
+use Rattle.findf.specs.Rows.{rowOf, kindOf}
 use Rattle.findf.specs.Findf.{State, stepOf, begun, readBy, anglesOf}
 use Rattle.findf.specs.declared.walk.Walk.{Walk}
 use Rattle.findf.specs.declared.walk.Label.{Label}
@@ -59,6 +59,27 @@ due Done = 0
 
 abbrev pub rowsDue : State → ℕ
 rowsDue s = due (s .0 .label)
+
+-- order 2: the kind of the row that the step writes, 0 where it writes none
+abbrev pub kindAt : Label → ℕ
+kindAt (Fill fill) = kindOf fill
+kindAt Search = 0
+kindAt NextLayer = 0
+kindAt NextCusp = 0
+kindAt Done = 0
+
+abbrev pub kindDue : State → ℕ
+kindDue s = kindAt (s .0 .label)
+
+-- the rows written so far, which is the number of the next, counted from 0
+abbrev pub rowsIn : State → ℕ
+rowsIn s = s .0 .rows
+
+-- how many are not 0
+abbrev pub nonzero : List ℕ → ℕ
+nonzero [] = 0
+nonzero (zero ∷ ns) = nonzero ns
+nonzero (suc n ∷ ns) = suc (nonzero ns)
 
 -- what an accepted job's walk reads, the reflectrix it starts with, and its state after n steps
 abbrev pub read : Job → Inputs

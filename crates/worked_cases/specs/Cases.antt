@@ -1,6 +1,6 @@
 -- Document 01, "Sheets to check": the cases marked P, as rows of one table. A row holds what goes in and what document 01 expects; numbers of type f32 stand by their bits.
 use mathlib.Core.List.{List, [], _∷_, _++_, map}
-use Prim.Native.Nat.{ℕ, suc, _+_, _-_}
+use Prim.Native.Nat.{ℕ, suc, _-_}
 use lib.IntN.{pos}
 use lib.ListN.{length, getD, set, replicate}
 use lib.Ieee.{Float, binary32, nan, toBits}
