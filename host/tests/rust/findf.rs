@@ -12,7 +12,7 @@ fn findf_on_realistic_jobs() {
     tally.print("findf, realistic");
     assert_eq!(tally.refusals[0], 100_000);
     assert!(tally.layers.iter().all(|jobs| *jobs > 10_000), "{:?}", tally.layers);
-    assert!(tally.kinds.iter().all(|rows| *rows > 20_000), "{:?}", tally.kinds);
+    assert!(tally.kinds.iter().all(|rows| *rows > 2_000), "{:?}", tally.kinds);
 }
 
 #[test]

@@ -9,7 +9,7 @@ fn realistic_jobs() {
     tally.print("realistic jobs");
     assert_eq!(tally.refusals[0], 100_000);
     assert!(tally.layers.iter().all(|jobs| *jobs > 10_000), "{:?}", tally.layers);
-    assert!(tally.kinds.iter().all(|rows| *rows > 20_000), "{:?}", tally.kinds);
+    assert!(tally.kinds.iter().all(|rows| *rows > 2_000), "{:?}", tally.kinds);
     assert!(tally.rays[..6].iter().all(|jobs| *jobs > 100), "{:?}", tally.rays);
     assert!(tally.standing > 25_000, "{}", tally.standing);
 }

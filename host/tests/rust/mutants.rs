@@ -269,7 +269,7 @@ fn wrong_kinds_are_found() {
     for (name, walk, shows) in KIND_SLIPS {
         let difference = found_in_walk(walk).unwrap_or_else(|| panic!("{name}: is not found"));
         println!("{name}: {difference}");
-        let in_jobs = found(&|job, answer| by_walk(job, answer, walk));
+        let in_jobs = found(&move |job, answer| by_walk(job, answer, walk));
         assert_eq!(in_jobs.is_some(), shows, "{name}: {in_jobs:?}");
     }
 }
