@@ -91,7 +91,7 @@ fn is_column(r: &[u8], at: usize, xs: [f32; 45]) -> bool
     record::are_floats(r, at, &xs)
 }
 
-fn layers(r: &[u8], at: usize) -> [u32; 45]
+fn codes(r: &[u8], at: usize) -> [u32; 45]
     requires { ⌜ at ≤ 10000 ⌝ }
 {
     let mut ns = [0u32; 45];
@@ -99,7 +99,7 @@ fn layers(r: &[u8], at: usize) -> [u32; 45]
     ns
 }
 
-fn are_layers(r: &[u8], at: usize, ns: [u32; 45]) -> bool
+fn are_codes(r: &[u8], at: usize, ns: [u32; 45]) -> bool
     requires { ⌜ at ≤ 10000 ⌝ }
 {
     record::are_naturals(r, at, &ns)
@@ -156,8 +156,8 @@ pub(crate) fn reflectrix(r: &[u8]) -> Reflectrix {
         gdflx: column(r, GDFLX),
         fvflx: column(r, FVFLX),
         afflx: column(r, AFFLX),
-        imode: layers(r, IMODE),
-        kind: layers(r, KIND),
+        imode: codes(r, IMODE),
+        kind: codes(r, KIND),
         dskpkm: record::float(r, DSKPKM),
         delskp: record::float(r, DELSKP),
         hpskp: record::float(r, HPSKP),
@@ -186,8 +186,8 @@ fn are_columns(r: &[u8], rfx: Reflectrix) -> bool {
         & is_column(r, GDFLX, gdflx)
         & is_column(r, FVFLX, fvflx)
         & is_column(r, AFFLX, afflx)
-        & are_layers(r, IMODE, imode)
-        & are_layers(r, KIND, kind)
+        & are_codes(r, IMODE, imode)
+        & are_codes(r, KIND, kind)
 }
 
 fn are_figures(r: &[u8], rfx: Reflectrix) -> bool {
