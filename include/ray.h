@@ -84,7 +84,7 @@ float ray_atan(float x);
 /* ---- Sizes ----------------------------------------------------------------------------------- */
 
 #define RAY_JOB_BYTES 5360    /* a job: 1,340 words of 4 bytes, least byte first */
-#define RAY_ANSWER_BYTES 1460 /* an answer: 365 such words */
+#define RAY_ANSWER_BYTES 1640 /* an answer: 410 such words */
 #define RAY_STACK_BYTES 16384 /* ray_job uses some 8 kB of stack, as compiled; a test measures it */
 
 #define RAY_POINTS 5        /* points of a job, and at most of ray_esmod */
@@ -130,17 +130,29 @@ float ray_atan(float x);
 #define RAY_ANSWER_FVFLX 194  /* f  MHz, 45 vertical frequencies */
 #define RAY_ANSWER_AFFLX 239  /* f  45 absorption factors */
 #define RAY_ANSWER_IMODE 284  /* u  45 layers (RAY_LAYER_...) */
-#define RAY_ANSWER_DELMOD 329 /* f  deg, 6 take-off angles of slots */
-#define RAY_ANSWER_HPMOD 335  /* f  km, 6 virtual heights; minus the height where the slot is too low */
-#define RAY_ANSWER_HTMOD 341  /* f  km, 6 true heights */
-#define RAY_ANSWER_FVMOD 347  /* f  MHz, 6 vertical frequencies */
-#define RAY_ANSWER_ITMOD 353  /* u  6 layers; RAY_LAYER_EMPTY tells an empty slot */
-#define RAY_ANSWER_AFMOD 359  /* f  6 absorption factors */
+#define RAY_ANSWER_KIND 329   /* u  45 kinds of rows (RAY_KIND_...) */
+#define RAY_ANSWER_DELMOD 374 /* f  deg, 6 take-off angles of slots */
+#define RAY_ANSWER_HPMOD 380  /* f  km, 6 virtual heights; minus the height where the slot is too low */
+#define RAY_ANSWER_HTMOD 386  /* f  km, 6 true heights */
+#define RAY_ANSWER_FVMOD 392  /* f  MHz, 6 vertical frequencies */
+#define RAY_ANSWER_ITMOD 398  /* u  6 layers; RAY_LAYER_EMPTY tells an empty slot */
+#define RAY_ANSWER_AFMOD 404  /* f  6 absorption factors */
 
 #define RAY_LAYER_E 1
 #define RAY_LAYER_F1 2
 #define RAY_LAYER_F2 3
 #define RAY_LAYER_EMPTY 5
+
+/*
+ * How a row came about: read off a row of the tables, whose entry at that angle is the frequency, or
+ * because the layer's lowest entry is not below it; between two rows of the tables; a cusp, the layer's
+ * last row at its penetration angle; after a cusp, the next layer's first row 0.001 deg above it.
+ */
+#define RAY_KIND_UNWRITTEN 0 /* of a row beyond `rows` */
+#define RAY_KIND_EXACT 1
+#define RAY_KIND_INTERPOLATED 2
+#define RAY_KIND_CUSP 3
+#define RAY_KIND_AFTER_CUSP 4
 
 #define RAY_EARTH_KM 6370.0f /* the radius of the earth: km for each radian of a hop */
 
@@ -201,7 +213,7 @@ static inline const char *ray_refusal_text(uint32_t number)
     switch (number) {
     case 0: return "the job is accepted";
     case RAY_REFUSED_JOB: return "the job is not 5360 bytes long";
-    case RAY_REFUSED_ANSWER: return "the answer is not 1460 bytes long";
+    case RAY_REFUSED_ANSWER: return "the answer is not 1640 bytes long";
     case RAY_REFUSED_K: return "the point k is not within 0 to 4";
     case RAY_REFUSED_NANG: return "the number of table angles, nang, is not within 0 to 40";
     case RAY_REFUSED_FREQ: return "the frequency, freq, is not within 2 to 30 MHz";

@@ -95,6 +95,13 @@ static void accepted(const char *name)
     for (i = 0; i < RAY_ANSWER_BYTES / 4; i++)
         sum += ray_get_u32(answer, i);
     printf("%08x %s\n", (unsigned)sum, name);
+    for (i = 0; i < RAY_COLUMN_ROWS; i++) {
+        uint32_t kind = ray_get_u32(answer, RAY_ANSWER_KIND + i);
+        if (i < ray_get_u32(answer, RAY_ANSWER_ROWS))
+            CHECK(kind >= RAY_KIND_EXACT && kind <= RAY_KIND_AFTER_CUSP);
+        else
+            CHECK(kind == RAY_KIND_UNWRITTEN);
+    }
     free(lent);
     free(answer);
     CHECK(called(job, RAY_JOB_BYTES, RAY_ANSWER_BYTES) == 0);
@@ -103,6 +110,8 @@ static void accepted(const char *name)
     CHECK(called(job, 1, 1) == RAY_REFUSED_JOB);
     CHECK(called(job, RAY_JOB_BYTES, RAY_ANSWER_BYTES - 1) == RAY_REFUSED_ANSWER);
     CHECK(called(job, RAY_JOB_BYTES, RAY_ANSWER_BYTES + 1) == RAY_REFUSED_ANSWER);
+    /* An answer without room for kinds. */
+    CHECK(called(job, RAY_JOB_BYTES, RAY_ANSWER_BYTES - 4 * RAY_COLUMN_ROWS) == RAY_REFUSED_ANSWER);
     refused(job, RAY_JOB_K, RAY_K_MAX + 1, RAY_REFUSED_K);
     refused(job, RAY_JOB_NANG, RAY_NANG_MAX + 1, RAY_REFUSED_NANG);
     refused(job, RAY_JOB_FREQ, 0x7fc00000u, RAY_REFUSED_FREQ);

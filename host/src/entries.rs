@@ -82,10 +82,11 @@ record! {
 }
 
 fields_of_the_rust! {
-    /// What a walk leaves. The Rust's has the columns of its losses besides.
+    /// What a walk leaves. The Rust's has the columns of its losses besides, and no kinds.
     Reflectrix {
         delfx hpflx htflx gdflx fvflx afflx: [f32; 45],
-        imode: [u32; 45],
+        imode: [u32; 45];
+        apart kind: [u32; 45];
         dskpkm delskp hpskp htskp dmaxkm fvskp: f32,
         iskp: u32,
         delpen: [f32; 3],
@@ -298,6 +299,7 @@ unsafe extern "C" {
         fvflx: &mut [f32; 45],
         afflx: &mut [f32; 45],
         imode: &mut [u32; 45],
+        kind: &mut [u32; 45],
         figures: Figures,
         k: usize,
         nang: usize,

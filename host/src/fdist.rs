@@ -11,7 +11,9 @@ use crate::tally::Tally;
 use std::ops::RangeInclusive;
 
 #[cfg(oracle)]
-use crate::oracle::{self, as_it_comes, counted, counts, led};
+use crate::oracle::counts::{self, Counts};
+#[cfg(oracle)]
+use crate::oracle::{self, as_it_comes, counted, led};
 
 /// The library's fdist.
 pub fn ours(m: HopModes, job: &FdistJob) -> Searched {
@@ -39,7 +41,7 @@ pub fn rust(fdist: RustFdist, m: HopModes, job: &FdistJob) -> HopModes {
 pub fn counting(fdist: RustFdist, m: HopModes, job: &FdistJob) -> Searched {
     counts::take();
     let m = rust(fdist, m, job);
-    let [_, pairs, rays] = counts::take();
+    let Counts { pairs, rays, .. } = counts::take();
     Searched { refusal: 0, pairs, rays, m }
 }
 

@@ -13,7 +13,9 @@ use crate::record::Record;
 use crate::tally::Tally;
 
 #[cfg(oracle)]
-use crate::oracle::{self, as_it_comes, counted, counts, led, AreaTables, IonoState};
+use crate::oracle::counts::{self, Counts};
+#[cfg(oracle)]
+use crate::oracle::{self, counted, counted_as_it_comes, led, AreaTables, IonoState};
 
 /// The library's findf by value.
 pub fn ours(rfx: Reflectrix, job: &FindfJob) -> Walked {
@@ -30,10 +32,10 @@ pub fn by_reference(rfx: Reflectrix, job: &FindfJob) -> Walked {
 /// The library's findf into the columns of a record; the figures go in and come back by value.
 pub fn into_columns(rfx: &mut Reflectrix, figures: Figures, job: &FindfJob) -> Outcome {
     let FindfJob { k, nang, freq, amind, fi, fvert, hprim, htrue, afac, ifob } = job;
-    let Reflectrix { delfx, hpflx, htflx, gdflx, fvflx, afflx, imode, .. } = rfx;
+    let Reflectrix { delfx, hpflx, htflx, gdflx, fvflx, afflx, imode, kind, .. } = rfx;
     entries::findf_into(
-        delfx, hpflx, htflx, gdflx, fvflx, afflx, imode, figures, *k, *nang, *freq, *amind, fi,
-        fvert, hprim, htrue, afac, ifob,
+        delfx, hpflx, htflx, gdflx, fvflx, afflx, imode, kind, figures, *k, *nang, *freq, *amind,
+        fi, fvert, hprim, htrue, afac, ifob,
     )
 }
 
@@ -50,30 +52,31 @@ fn ours_in_place(rfx: Reflectrix, job: &FindfJob) -> Walked {
 #[cfg(oracle)]
 pub type RustFindf = fn(&mut oracle::Reflectrix, &IonoState, &AreaTables, usize, f32, f32, usize);
 
-/// One of the oracle's.
+/// One of the oracle's. It has no kinds: they stay as they came.
 #[cfg(oracle)]
 pub fn rust(findf: RustFindf, rfx: Reflectrix, job: &FindfJob) -> Reflectrix {
     let mut rust = oracle::Reflectrix::from(rfx);
     findf(&mut rust, &job.into(), &job.into(), job.k, job.freq, job.amind, job.nang);
-    rust.into()
+    Reflectrix { kind: rfx.kind, ..rust.into() }
 }
 
-/// One that counts looks.
+/// One that counts looks, and notes the kind of each row that it writes.
 #[cfg(oracle)]
 pub fn counting(findf: RustFindf, rfx: Reflectrix, job: &FindfJob) -> Walked {
     counts::take();
     let rfx = rust(findf, rfx, job);
-    let [looks, ..] = counts::take();
-    Walked { refusal: 0, looks, rfx }
+    let Counts { looks, kind, .. } = counts::take();
+    Walked { refusal: 0, looks, rfx: Reflectrix { kind, ..rfx } }
 }
 
-/// The led one, with the looks of its counted copy.
+/// The led one, with the looks and the kinds of its counted copy.
 #[cfg(oracle)]
 pub fn led(rfx: Reflectrix, job: &FindfJob) -> Walked {
     let led = rust(led::findf, rfx, job);
     let counted = counting(counted::findf, rfx, job);
-    assert_eq!(counted.rfx.difference(&led, floats::same), None);
-    Walked { rfx: led, ..counted }
+    let rfx = Reflectrix { kind: counted.rfx.kind, ..led };
+    assert_eq!(counted.rfx.difference(&rfx, floats::same), None);
+    Walked { rfx, ..counted }
 }
 
 /// A findf by value.
@@ -83,7 +86,8 @@ pub type Walk = fn(Reflectrix, &FindfJob) -> Walked;
 pub const OURS: [Walk; 3] = [ours, ours_in_place, by_reference];
 
 /// Checks a job on a used reflectrix, by each of `walks`: the number by the limits, a refusal's
-/// reflectrix as it was, an accepted one as the led Rust has it.
+/// reflectrix as it was, kinds too; an accepted one as the led Rust has it, and its kinds as the
+/// counted copy noted them.
 pub fn check(walks: &[Walk], old: Reflectrix, job: &FindfJob, tally: &mut Tally) -> Checked {
     let refusal = limits::findf(job);
     let FindfJob { k, nang, freq, amind, .. } = *job;
@@ -108,10 +112,12 @@ pub fn check(walks: &[Walk], old: Reflectrix, job: &FindfJob, tally: &mut Tally)
         let Walked { looks, rfx, .. } = &answers[0];
         let rows = rfx.rows_this_call;
         tally.add_walk(nang, *looks, &rfx.imode[..rows], &rfx.gdflx[..rows], rfx.delpen[2]);
+        tally.add_kinds(&rfx.kind, rows).map_err(at)?;
     }
     #[cfg(oracle)]
     if let Some(expected) = &expected {
-        tally.differences.add(&expected.rfx, &rust(as_it_comes::findf, old, job));
+        let as_it_comes = counting(counted_as_it_comes::findf, old, job).rfx;
+        tally.differences.add(&expected.rfx, &as_it_comes);
     }
     Ok(())
 }

@@ -93,7 +93,7 @@ fields! {
         dskpkm delskp hpskp htskp dmaxkm fvskp: f32,
         iskp iaftxr: u32,
         delfx hpflx htflx gdflx fvflx afflx: [f32; 45],
-        imode: [u32; 45],
+        imode kind: [u32; 45],
         delmod hpmod htmod fvmod: [f32; 6],
         itmod: [u32; 6],
         afmod: [f32; 6],
@@ -101,25 +101,28 @@ fields! {
 }
 
 impl Answer {
-    pub const BYTES: usize = 1460;
+    pub const BYTES: usize = 1640;
+    /// How many of its words are kinds. The others are what the Rust has.
+    pub const KINDS: usize = 45;
+    const OTHERS: usize = Self::BYTES / 4 - Self::KINDS;
 
     /// The answer of a walk that left `rfx`, and of the search on it.
     #[rustfmt::skip]
     pub fn new(looks: u32, pairs: u32, rfx: Reflectrix, m: HopModes) -> Self {
         let Reflectrix {
-            delfx, hpflx, htflx, gdflx, fvflx, afflx, imode, dskpkm, delskp, hpskp, htskp, dmaxkm,
-            fvskp, iskp, delpen, iaftxr, rows_this_call,
+            delfx, hpflx, htflx, gdflx, fvflx, afflx, imode, kind, dskpkm, delskp, hpskp, htskp,
+            dmaxkm, fvskp, iskp, delpen, iaftxr, rows_this_call,
         } = rfx;
         let HopModes { delmod, hpmod, htmod, fvmod, itmod, afmod } = m;
         Answer {
             rows: rows_this_call as u32, looks, pairs, delpen, dskpkm, delskp, hpskp, htskp, dmaxkm,
             fvskp, iskp, iaftxr: iaftxr as u32, delfx, hpflx, htflx, gdflx, fvflx, afflx, imode,
-            delmod, hpmod, htmod, fvmod, itmod, afmod,
+            kind, delmod, hpmod, htmod, fvmod, itmod, afmod,
         }
     }
 
     pub fn bytes(&self) -> [u8; Self::BYTES] {
-        bytes_of(&self.words()).try_into().expect("365 words")
+        bytes_of(&self.words()).try_into().expect("410 words")
     }
 
     pub fn from_bytes(bytes: &[u8]) -> Self {
@@ -199,7 +202,8 @@ pub fn check(
     Ok(0)
 }
 
-/// An accepted job's answer: all words as the oracle has them, NaN only as 7FC00000, and demand 3.
+/// An accepted job's answer: all words as the oracle has them, the kinds as its counted copy noted
+/// them, NaN only as 7FC00000, and demand 3.
 fn check_answer(job: &Job, bytes: &[u8], tally: &mut Tally) -> Checked {
     let answer = Answer::from_bytes(bytes);
     #[cfg(oracle)]
@@ -218,15 +222,24 @@ fn check_answer(job: &Job, bytes: &[u8], tally: &mut Tally) -> Checked {
     let rows = answer.rows as usize;
     let (layers, lengths) = (&answer.imode[..rows], &answer.gdflx[..rows]);
     tally.add_walk(job.walk.nang, answer.looks, layers, lengths, answer.delpen[2]);
+    tally.add_kinds(&answer.kind, rows)?;
     tally.add_search(answer.pairs, rays);
     Ok(())
+}
+
+/// Any bits for an answer. Those of the last words are drawn apart, so that the jobs are those that
+/// were drawn before an answer had kinds.
+fn any_contents(prng: &mut Prng) -> Vec<u8> {
+    let last = prng.apart().words::<{ Answer::KINDS }>();
+    let words = prng.words::<{ Answer::OTHERS }>();
+    bytes_of(&[&words[..], &last].concat())
 }
 
 /// Checks jobs of one kind, each on an answer of any contents, at all places in turn.
 pub fn check_jobs(call: &Call, seed: u64, jobs: u64, kind: Kind) -> Checked<Tally> {
     let (mut prng, mut tally) = (Prng::new(seed), Tally::default());
     for i in 0..jobs as usize {
-        let old = bytes_of(&prng.words::<{ Answer::BYTES / 4 }>());
+        let old = any_contents(&mut prng);
         let job = kind(&mut prng).bytes();
         check(call, &job, &old, [i % 16, i / 16 % 16], &mut tally)?;
     }

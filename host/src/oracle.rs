@@ -184,7 +184,7 @@ pub mod perf {
 
 include!(concat!(env!("OUT_DIR"), "/once.rs"));
 
-/// What the counted variants count, in this thread.
+/// What the counted variants count and note, in this thread.
 pub mod counts {
     use std::cell::Cell;
     use std::thread::LocalKey;
@@ -193,15 +193,32 @@ pub mod counts {
         pub static LOOKS: Cell<u32> = const { Cell::new(0) };
         pub static PAIRS: Cell<u32> = const { Cell::new(0) };
         pub static RAYS: Cell<u32> = const { Cell::new(0) };
+        static KIND: Cell<[u32; 45]> = const { Cell::new([0; 45]) };
+    }
+
+    /// The looks, pairs and rays, and the kind of each row, 0 where none was noted.
+    pub struct Counts {
+        pub looks: u32,
+        pub pairs: u32,
+        pub rays: u32,
+        pub kind: [u32; 45],
     }
 
     pub fn count(counter: &'static LocalKey<Cell<u32>>) {
         counter.set(counter.get() + 1);
     }
 
-    /// The looks, pairs and rays since the thread last asked.
-    pub fn take() -> [u32; 3] {
-        [LOOKS.take(), PAIRS.take(), RAYS.take()]
+    /// Notes the kind of a row, which counts from 0.
+    pub fn note(row: usize, kind: u32) {
+        let mut noted = KIND.get();
+        noted[row] = kind;
+        KIND.set(noted);
+    }
+
+    /// Those since the thread last asked.
+    pub fn take() -> Counts {
+        let (looks, pairs, rays) = (LOOKS.take(), PAIRS.take(), RAYS.take());
+        Counts { looks, pairs, rays, kind: KIND.replace([0; 45]) }
     }
 }
 

@@ -1,6 +1,7 @@
 //! The benchmark's peers: a job call on the Rust as it comes, as one would write it in Rust, with
-//! document 01's limits and without. It has no counts: looks and pairs are 0. And the lines of the
-//! Rust's esmod that make its geometry, in the same two ways.
+//! document 01's limits and without. It has no counts: looks and pairs are 0. It has no kinds either:
+//! their words it leaves as they are. And the lines of the Rust's esmod that make its geometry, in the
+//! same two ways.
 
 use crate::con::{PIO2, R2D, RZ, VOFL};
 use crate::entries::{EsHop, EsJob, EsModes};
@@ -56,6 +57,10 @@ impl Room<'_> {
         self.0 = rest;
     }
 
+    fn skip(&mut self, words: usize) {
+        self.0 = &mut std::mem::take(&mut self.0)[4 * words..];
+    }
+
     fn floats(&mut self, floats: &[f32]) {
         self.put(floats.iter().map(|x| if x.is_nan() { 0x7fc0_0000 } else { x.to_bits() }));
     }
@@ -102,7 +107,7 @@ fn broken(
     }
 }
 
-/// With the limits: what the library's call does, but for the counts.
+/// With the limits: what the library's call does, but for the counts and the kinds.
 #[inline(never)]
 pub fn job(job: &[u8], answer: &mut [u8]) -> u32 {
     solve::<true>(job, answer)
@@ -158,6 +163,7 @@ fn solve<const CHECKED: bool>(job: &[u8], answer: &mut [u8]) -> u32 {
         room.floats(column);
     }
     room.ints(&rfx.imode);
+    room.skip(Answer::KINDS);
     for column in [&m.delmod, &m.hpmod, &m.htmod, &m.fvmod] {
         room.floats(column);
     }

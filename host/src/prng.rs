@@ -14,6 +14,11 @@ impl Prng {
         z ^ (z >> 31)
     }
 
+    /// Another one, of other numbers: what is drawn from it leaves this one's as they are.
+    pub fn apart(&self) -> Self {
+        Prng(self.0 ^ 0xd1b5_4a32_d192_ed03)
+    }
+
     /// A number below `n`.
     pub fn below(&mut self, n: usize) -> usize {
         (((self.long() >> 32) * n as u64) >> 32) as usize

@@ -163,30 +163,48 @@ pub trait Record {
     }
 }
 
-/// Defines a record whose fields are taken one by one.
+/// Defines a record whose fields are taken one by one. One field may stand apart, between two `;`: it
+/// is drawn apart, so that all others, and what is drawn after them, are as without it.
 macro_rules! fields {
     (
         $(#[$meta:meta])*
-        $name:ident { $($($field:ident)+: $type:ty),+ $(,)? }
+        $name:ident {
+            $($($field:ident)+: $type:ty),+
+            $(; apart $own:ident: $own_type:ty; $($($later:ident)+: $later_type:ty),+)?
+            $(,)?
+        }
     ) => {
         $(#[$meta])*
         #[repr(C)]
         #[derive(Clone, Copy)]
         pub struct $name {
             $($(pub $field: $type,)+)+
+            $(pub $own: $own_type, $($(pub $later: $later_type,)+)+)?
         }
 
         impl $name {
             /// Any bits in every field.
             pub fn random(prng: &mut crate::prng::Prng) -> Self {
                 use crate::record::Field;
-                Self { $($($field: <$type>::random(prng),)+)+ }
+                Self {
+                    $($($field: <$type>::random(prng),)+)+
+                    $(
+                        $own: <$own_type>::random(&mut prng.apart()),
+                        $($($later: <$later_type>::random(prng),)+)+
+                    )?
+                }
             }
 
             /// By its numbers' words in the fields' order.
             pub fn read(words: &mut impl Iterator<Item = u32>) -> Self {
                 use crate::record::Field;
-                Self { $($($field: <$type>::read(words),)+)+ }
+                Self {
+                    $($($field: <$type>::read(words),)+)+
+                    $(
+                        $own: <$own_type>::read(words),
+                        $($($later: <$later_type>::read(words),)+)+
+                    )?
+                }
             }
 
             /// 0 in every field.
@@ -198,22 +216,35 @@ macro_rules! fields {
         impl crate::record::Record for $name {
             fn fields(&self) -> Vec<(&'static str, crate::record::Numbers<'_>)> {
                 use crate::record::Field;
-                vec![$($((stringify!($field), self.$field.numbers()),)+)+]
+                vec![
+                    $($((stringify!($field), self.$field.numbers()),)+)+
+                    $(
+                        (stringify!($own), self.$own.numbers()),
+                        $($((stringify!($later), self.$later.numbers()),)+)+
+                    )?
+                ]
             }
         }
     };
 }
 
 /// Defines such a record with the field names of the Rust's record of the same name, and the way
-/// from one to the other.
+/// from one to the other. The field that stands apart the Rust's has not: from there it comes as 0.
 macro_rules! fields_of_the_rust {
     (
         $(#[$meta:meta])*
-        $name:ident { $($($field:ident)+: $type:ty),+ $(,)? }
+        $name:ident {
+            $($($field:ident)+: $type:ty),+
+            $(; apart $own:ident: $own_type:ty; $($($later:ident)+: $later_type:ty),+)?
+            $(,)?
+        }
     ) => {
         crate::record::fields! {
             $(#[$meta])*
-            $name { $($($field)+: $type),+ }
+            $name {
+                $($($field)+: $type),+
+                $(; apart $own: $own_type; $($($later)+: $later_type),+)?
+            }
         }
 
         #[cfg(oracle)]
@@ -221,7 +252,11 @@ macro_rules! fields_of_the_rust {
             #[allow(clippy::needless_update)]
             fn from(ours: $name) -> Self {
                 use crate::record::Cast;
-                Self { $($($field: ours.$field.cast(),)+)+ ..Default::default() }
+                Self {
+                    $($($field: ours.$field.cast(),)+)+
+                    $($($($later: ours.$later.cast(),)+)+)?
+                    ..Default::default()
+                }
             }
         }
 
@@ -229,7 +264,13 @@ macro_rules! fields_of_the_rust {
         impl From<crate::oracle::$name> for $name {
             fn from(rust: crate::oracle::$name) -> Self {
                 use crate::record::Cast;
-                Self { $($($field: rust.$field.cast(),)+)+ }
+                Self {
+                    $($($field: rust.$field.cast(),)+)+
+                    $(
+                        $own: Self::zeros().$own,
+                        $($($later: rust.$later.cast(),)+)+
+                    )?
+                }
             }
         }
     };

@@ -368,8 +368,8 @@ fn named() -> Vec<Named> {
         ("job of 5,359 bytes", whole[..5359].to_vec(), Answer::BYTES),
         ("job of 5,360 bytes", whole.clone(), Answer::BYTES),
         ("job of 5,361 bytes", longer, Answer::BYTES),
-        ("answer of 1,459 bytes", whole.clone(), 1459),
-        ("answer of 1,461 bytes", whole, 1461),
+        ("answer of 1,639 bytes", whole.clone(), 1639),
+        ("answer of 1,641 bytes", whole, 1641),
     ]
 }
 

@@ -2,6 +2,7 @@
 
 #[cfg(oracle)]
 use crate::differences::Differences;
+use crate::ensure::{ensure, Checked};
 
 /// What a tried pair can give.
 pub const GIVEN: [&str; 5] = ["nothing", "first row", "equal lengths", "second row", "spot"];
@@ -17,6 +18,8 @@ pub struct Tally {
     pub dead: u64,
     /// How many have a row whose length is NaN.
     pub nan: u64,
+    /// How many rows there were of each kind, from 1.
+    pub kinds: [u64; 4],
     pub most_rows: usize,
     /// The most rows and looks beyond nang.
     pub rows_beyond: i64,
@@ -60,6 +63,7 @@ impl Default for Tally {
             layers: [0; 3],
             dead: 0,
             nan: 0,
+            kinds: [0; 4],
             most_rows: 0,
             rows_beyond: i64::MIN,
             looks_beyond: i64::MIN,
@@ -94,6 +98,17 @@ impl Tally {
         self.looks_beyond = self.looks_beyond.max(i64::from(looks) - nang as i64);
     }
 
+    /// The kinds that an accepted walk left: "Rows not written in this call have 0."
+    pub fn add_kinds(&mut self, kinds: &[u32; 45], rows: usize) -> Checked {
+        let (written, others) = kinds.split_at(rows);
+        ensure(others.iter().all(|kind| *kind == 0), || format!("{rows} rows, kinds {kinds:?}"))?;
+        for kind in written {
+            let of_kind = self.kinds.get_mut((*kind as usize).wrapping_sub(1));
+            *of_kind.ok_or_else(|| format!("a row of kind {kind}"))? += 1;
+        }
+        Ok(())
+    }
+
     /// An accepted search.
     pub fn add_search(&mut self, pairs: u32, rays: u32) {
         self.searches += 1;
@@ -113,6 +128,7 @@ impl Tally {
         };
         add(&mut self.refusals, &other.refusals);
         add(&mut self.layers, &other.layers);
+        add(&mut self.kinds, &other.kinds);
         add(&mut self.rays, &other.rays);
         add(&mut self.pairs, &other.pairs);
         add(&mut self.given, &other.given);
@@ -140,6 +156,10 @@ impl Tally {
             let Tally { layers: [e, f1, f2], dead, nan, most_rows, .. } = self;
             println!(
                 "  with rows of E {e}, F1 {f1}, F2 {f2}; {dead} with a dead F2, {nan} with NaN"
+            );
+            let [exact, between, cusp, after] = self.kinds;
+            println!(
+                "  rows: {exact} exact, {between} between two, {cusp} cusps, {after} after one"
             );
             let Tally { rows_beyond, looks_beyond, .. } = self;
             println!(

@@ -78,7 +78,7 @@ fn places() -> [BTreeMap<String, usize>; 2] {
         |name: &&str| !job.contains_key(*name) && !others.contains(name) && !COUNTS.contains(name);
     let names: Vec<&str> = constants.keys().map(String::as_str).filter(is_answers).collect();
     let answer = group(0, &names);
-    assert_eq!((job.len(), answer.len()), (11, 25));
+    assert_eq!((job.len(), answer.len()), (11, 26));
     [job, answer]
 }
 
@@ -252,6 +252,30 @@ fn layers() {
     let place = 4 * layout::answer::ITMOD;
     assert_eq!(empty.as_bytes()[place..][..4], (number("LAYER_EMPTY") as u32).to_le_bytes());
     assert_eq!(empty.slots(), [ray::Slot::Empty; layout::SLOTS]);
+}
+
+/// The kinds' numbers, as the walk writes them: header and wrapper have the names, and 0 besides.
+#[test]
+fn kinds() {
+    let crates = constants("crates/findf/src/lib.rt");
+    let names = ["UNWRITTEN", "EXACT", "INTERPOLATED", "CUSP", "AFTER_CUSP"];
+    let written = ["KIND_EXACT", "KIND_INTERP", "KIND_CUSP", "KIND_NEXT_CUSP"];
+    let numbers: Vec<usize> =
+        [0].into_iter().chain(written.map(|name| one(&crates, name))).collect();
+    let headers = defined_as("KIND_");
+    assert_eq!(headers, names.map(str::to_string).into_iter().zip(numbers.clone()).collect());
+    use ray::Kind::{AfterCusp, Cusp, Exact, Interpolated, Unwritten};
+    let wrappers = [Unwritten, Exact, Interpolated, Cusp, AfterCusp];
+    assert!(wrappers.map(|kind| kind.number() as usize).iter().eq(&numbers));
+    // The page's paragraph has each number in its order.
+    let page = read("docs/JOB.md");
+    let line = page.lines().find(|line| line.starts_with("- **Kinds**")).unwrap();
+    let mut rest = line;
+    for number in &numbers[1..] {
+        let (_, after) =
+            rest.split_once(&format!(" {number}, ")).unwrap_or_else(|| panic!("{number}"));
+        rest = after;
+    }
 }
 
 /// The two ends in the body of a function of limits.rt: those of the n-th `within(..)`.

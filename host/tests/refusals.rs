@@ -244,6 +244,20 @@ fn jobs_of_every_wrong_length_are_refused() {
     assert_eq!(job_refusal(&mut prng, &bad, answer_length), 3);
 }
 
+/// The size that an answer had before its rows had kinds, and those about it and about the new one.
+#[test]
+fn answers_without_room_for_kinds_are_refused() {
+    let mut prng = Prng::new(41);
+    let jobs = good_and_bad_job(&mut prng);
+    for size in [Answer::BYTES - 4 * Answer::KINDS, Answer::BYTES] {
+        for answer in (size - 8..=size + 8).filter(|length| *length != Answer::BYTES) {
+            for job in &jobs {
+                assert_eq!(job_refusal(&mut prng, job, answer), 2, "answer {answer}");
+            }
+        }
+    }
+}
+
 #[test]
 fn jobs_are_taken_at_every_place() {
     let mut prng = Prng::new(36);

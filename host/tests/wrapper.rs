@@ -7,7 +7,7 @@ use host::job::{self as raw, KINDS};
 use host::limits;
 use host::prng::Prng;
 use host::samples::samples;
-use ray::{Answer, Es, EsHop, EsPoint, Field, Job, Layer, Ray, Refusal, Row, Skip, Slot};
+use ray::{Answer, Es, EsHop, EsPoint, Field, Job, Kind, Layer, Ray, Refusal, Row, Skip, Slot};
 use std::fs;
 use std::path::Path;
 
@@ -22,13 +22,21 @@ fn bits<const N: usize>(floats: [f32; N]) -> [u32; N] {
 }
 
 /// Layer numbers have no other way out than their number.
-fn row_words(row: Row) -> [u32; 7] {
+fn row_words(row: Row) -> [u32; 8] {
     let Row {
-        angle, virtual_height, true_height, hop_length, frequency, absorption, layer, ..
+        angle,
+        virtual_height,
+        true_height,
+        hop_length,
+        frequency,
+        absorption,
+        layer,
+        kind,
+        ..
     } = row;
     let [a, b, c, d, e, f] =
         bits([angle, virtual_height, true_height, hop_length, frequency, absorption]);
-    [a, b, c, d, e, f, layer.number()]
+    [a, b, c, d, e, f, layer.number(), kind.number()]
 }
 
 fn ray_words(ray: Ray) -> [u32; 6] {
@@ -50,6 +58,7 @@ fn check_answer(answer: &Answer, amind: f32, bytes: &[u8]) {
     assert_eq!(answer.rows().len(), words.rows as usize);
     for (i, row) in answer.rows().enumerate() {
         assert!([Layer::E, Layer::F1, Layer::F2].contains(&row.layer));
+        assert_ne!(row.kind, Kind::Unwritten);
         let [a, b, c, d, e, f] = bits([
             words.delfx[i],
             words.hpflx[i],
@@ -58,7 +67,7 @@ fn check_answer(answer: &Answer, amind: f32, bytes: &[u8]) {
             words.fvflx[i],
             words.afflx[i],
         ]);
-        assert_eq!(row_words(row), [a, b, c, d, e, f, words.imode[i]]);
+        assert_eq!(row_words(row), [a, b, c, d, e, f, words.imode[i], words.kind[i]]);
     }
     let mut rays = answer.rays();
     for (i, slot) in answer.slots().into_iter().enumerate() {

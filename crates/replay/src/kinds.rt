@@ -27,12 +27,12 @@ pub(crate) enum Kind {
 
 // A record's bytes.
 pub(crate) fn size(kind: Kind) -> usize
-    ensures { λ r. ⌜ r ≤ 8192 ⌝ }
+    ensures { λ r. ⌜ r ≤ 9216 ⌝ }
 {
     match kind {
-        Kind::Job => 6824,
-        Kind::Findf => 8004,
-        Kind::Fdist => 1628,
+        Kind::Job => jobs::SIZE,
+        Kind::Findf => walks::SIZE,
+        Kind::Fdist => searches::SIZE,
         Kind::Esmod => 140,
         Kind::Prbmuf => 60,
         Kind::Reset => 3712,
@@ -43,12 +43,12 @@ pub(crate) fn size(kind: Kind) -> usize
 
 // Where in a record the answer begins, which goes to its end.
 pub(crate) fn answer(kind: Kind) -> usize
-    ensures { λ r. ⌜ r ≤ 8192 ⌝ }
+    ensures { λ r. ⌜ r ≤ 9216 ⌝ }
 {
     match kind {
-        Kind::Job => 5360,
-        Kind::Findf => 6680,
-        Kind::Fdist => 1472,
+        Kind::Job => jobs::ANSWER,
+        Kind::Findf => walks::ANSWER,
+        Kind::Fdist => searches::ANSWER,
         Kind::Esmod => es_file::BYTES,
         Kind::Prbmuf => 52,
         Kind::Reset => 1856,

@@ -18,7 +18,7 @@ use tally::Tally;
 
 // A file's first record, as it is and altered, then the others. One that cannot be opened cannot be read.
 fn file(t: Tally, path: &[u8], kind: Kind) -> Tally {
-    let mut record = [0u8; 8192];
+    let mut record = [0u8; 9216];
     let n = kinds::size(kind);
     let fd = os::open_read(path);
     let r = &mut record[0..n];

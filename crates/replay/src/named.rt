@@ -2,9 +2,18 @@
 ghost use Prim.Native.Nat.{_≤_};
 use super::files;
 use super::jobs;
+use super::record;
 use super::say;
 use super::tally;
 use super::tally::Tally;
+use job::layout;
+
+const JOB: usize = layout::JOB_BYTES;
+
+const ANSWER: usize = layout::ANSWER_BYTES;
+
+// What is stored: the number and the answer.
+const STORED: usize = record::WORD + ANSWER;
 
 // The sheet's job and a byte more: nang 40, fi's third number 1 at each point.
 fn sheet(job: &mut [u8]) {
@@ -20,8 +29,8 @@ fn sheet(job: &mut [u8]) {
 }
 
 // Whether a call gave this number and left this answer.
-fn is_stored(number: u32, answer: [u8; 1461], stored: [u8; 1464]) -> bool {
-    (number == words::word(&stored, 0)) & check::same(&answer[0..1460], &stored[4..1464])
+fn is_stored(number: u32, answer: [u8; ANSWER + 1], stored: [u8; STORED]) -> bool {
+    (number == words::word(&stored, 0)) & check::same(&answer[0..ANSWER], &stored[record::WORD..])
 }
 
 fn told(name: &[u8], number: u32, agrees: bool) {
@@ -40,14 +49,14 @@ fn told(name: &[u8], number: u32, agrees: bool) {
 
 // Runs the sheet's job, with another word and cut to a length, on an answer of a length, and holds it against what is stored next.
 fn case(t: Tally, fd: i32, name: &[u8], at: usize, w: u32, length: usize, room: usize) -> Tally
-    requires { ⌜ (length ≤ 5361) × (room ≤ 1461) ⌝ }
+    requires { ⌜ (length ≤ 5361) × (room ≤ 1641) ⌝ }
 {
-    let mut stored = [0u8; 1464];
+    let mut stored = [0u8; STORED];
     files::next(fd, &mut stored);
-    let mut job = [0u8; 5361];
+    let mut job = [0u8; JOB + 1];
     sheet(&mut job);
     words::put_word(&mut job, at, w);
-    let mut answer = [jobs::UNWRITTEN; 1461];
+    let mut answer = [jobs::UNWRITTEN; ANSWER + 1];
     let number = job::run(&job[0..length], &mut answer[0..room]);
     let agrees = is_stored(number, answer, stored);
     told(name, number, agrees);
@@ -55,20 +64,20 @@ fn case(t: Tally, fd: i32, name: &[u8], at: usize, w: u32, length: usize, room: 
 }
 
 fn limits(t: Tally, fd: i32) -> Tally {
-    let a = case(t, fd, b"nang 40", 4, 40, 5360, 1460);
-    let b = case(a, fd, b"nang 41", 4, 41, 5360, 1460);
-    let c = case(b, fd, b"k 4", 0, 4, 5360, 1460);
-    let d = case(c, fd, b"k 5", 0, 5, 5360, 1460);
-    let e = case(d, fd, b"ifob 99999", 560, 99999, 5360, 1460);
-    case(e, fd, b"ifob 100000", 560, 100000, 5360, 1460)
+    let a = case(t, fd, b"nang 40", 4, 40, JOB, ANSWER);
+    let b = case(a, fd, b"nang 41", 4, 41, JOB, ANSWER);
+    let c = case(b, fd, b"k 4", 0, 4, JOB, ANSWER);
+    let d = case(c, fd, b"k 5", 0, 5, JOB, ANSWER);
+    let e = case(d, fd, b"ifob 99999", 560, 99999, JOB, ANSWER);
+    case(e, fd, b"ifob 100000", 560, 100000, JOB, ANSWER)
 }
 
 fn lengths(t: Tally, fd: i32) -> Tally {
-    let a = case(t, fd, b"job of 5,359 bytes", 0, 0, 5359, 1460);
-    let b = case(a, fd, b"job of 5,360 bytes", 0, 0, 5360, 1460);
-    let c = case(b, fd, b"job of 5,361 bytes", 0, 0, 5361, 1460);
-    let d = case(c, fd, b"answer of 1,459 bytes", 0, 0, 5360, 1459);
-    case(d, fd, b"answer of 1,461 bytes", 0, 0, 5360, 1461)
+    let a = case(t, fd, b"job of 5,359 bytes", 0, 0, JOB - 1, ANSWER);
+    let b = case(a, fd, b"job of 5,360 bytes", 0, 0, JOB, ANSWER);
+    let c = case(b, fd, b"job of 5,361 bytes", 0, 0, JOB + 1, ANSWER);
+    let d = case(c, fd, b"answer of 1,639 bytes", 0, 0, JOB, ANSWER - 1);
+    case(d, fd, b"answer of 1,641 bytes", 0, 0, JOB, ANSWER + 1)
 }
 
 fn root_of_4(t: Tally) -> Tally {

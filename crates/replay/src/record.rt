@@ -9,11 +9,15 @@ ghost use mir.Val.{ofZ};
 ghost use Rattle.words.specs.Words.{wordAt};
 ghost use Rattle.replay.specs.Stored.{Stand, Tells};
 
+// The bytes of a word, and of a count: its two words, the low one first.
+pub(crate) const WORD: usize = 4;
+
+pub(crate) const COUNT: usize = 2 * WORD;
+
 pub(crate) fn float(r: &[u8], at: usize) -> f32 {
     words::float(words::word(r, at))
 }
 
-// A count has two words, the low one first.
 pub(crate) fn count(r: &[u8], at: usize) -> usize
     requires { ⌜ at ≤ 10000 ⌝ }
 {

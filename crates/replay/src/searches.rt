@@ -4,6 +4,42 @@ use super::record;
 use super::walks;
 use fdist::HopModes;
 
+// The slots have 36 words, in the order of their fields. Here is where each of them stands, in bytes.
+const DELMOD: usize = 0;
+
+const HPMOD: usize = DELMOD + SIX;
+
+const HTMOD: usize = HPMOD + SIX;
+
+const FVMOD: usize = HTMOD + SIX;
+
+const ITMOD: usize = FVMOD + SIX;
+
+const AFMOD: usize = ITMOD + SIX;
+
+const SLOTS: usize = AFMOD + SIX;
+
+// Of a record: the slots, the reflectrix, ghop, amind, freq; then the number, the pairs, the rays and the slots.
+const ROWS: usize = SLOTS;
+
+const GHOP: usize = ROWS + walks::REFLECTRIX;
+
+const AMIND: usize = GHOP + record::WORD;
+
+const FREQ: usize = AMIND + record::WORD;
+
+pub(crate) const ANSWER: usize = FREQ + record::WORD;
+
+const PAIRS: usize = ANSWER + record::WORD;
+
+const RAYS: usize = PAIRS + record::WORD;
+
+const LEFT: usize = RAYS + record::WORD;
+
+pub(crate) const SIZE: usize = LEFT + SLOTS;
+
+const SIX: usize = 6 * record::WORD;
+
 fn six(r: &[u8], at: usize) -> [f32; 6]
     requires { ⌜ at ≤ 10000 ⌝ }
 {
@@ -26,15 +62,14 @@ fn layers(r: &[u8], at: usize) -> [u32; 6]
     ns
 }
 
-// The slots have 36 words, in the order of their fields.
 fn slots(r: &[u8]) -> HopModes {
     HopModes {
-        delmod: six(r, 0),
-        hpmod: six(r, 24),
-        htmod: six(r, 48),
-        fvmod: six(r, 72),
-        itmod: layers(r, 96),
-        afmod: six(r, 120),
+        delmod: six(r, DELMOD),
+        hpmod: six(r, HPMOD),
+        htmod: six(r, HTMOD),
+        fvmod: six(r, FVMOD),
+        itmod: layers(r, ITMOD),
+        afmod: six(r, AFMOD),
     }
 }
 
@@ -45,31 +80,30 @@ fn are_slots(r: &[u8], m: HopModes) -> bool {
     let fvmod = m.fvmod;
     let itmod = m.itmod;
     let afmod = m.afmod;
-    are_six(r, 0, delmod)
-        & are_six(r, 24, hpmod)
-        & are_six(r, 48, htmod)
-        & are_six(r, 72, fvmod)
-        & record::are_naturals(r, 96, &itmod)
-        & are_six(r, 120, afmod)
+    are_six(r, DELMOD, delmod)
+        & are_six(r, HPMOD, hpmod)
+        & are_six(r, HTMOD, htmod)
+        & are_six(r, FVMOD, fvmod)
+        & record::are_naturals(r, ITMOD, &itmod)
+        & are_six(r, AFMOD, afmod)
 }
 
-// The slots, the reflectrix, ghop, amind, freq; then the number, the pairs, the rays and the slots.
 pub(crate) fn agrees(r: &[u8]) -> bool {
-    if r.len() < 1628 {
+    if r.len() < SIZE {
         return false;
     }
-    let rows = &r[144..];
-    let left = &r[1484..];
+    let rows = &r[ROWS..];
+    let left = &r[LEFT..];
     let s = fdist::fdist(
         slots(r),
         walks::reflectrix(rows),
-        record::float(r, 1460),
-        record::float(r, 1464),
-        record::float(r, 1468),
+        record::float(r, GHOP),
+        record::float(r, AMIND),
+        record::float(r, FREQ),
     );
     let m = s.m;
-    (words::word(r, 1472) == s.refusal)
-        & (words::word(r, 1476) == s.pairs)
-        & (words::word(r, 1480) == s.rays)
+    (words::word(r, ANSWER) == s.refusal)
+        & (words::word(r, PAIRS) == s.pairs)
+        & (words::word(r, RAYS) == s.rays)
         & are_slots(left, m)
 }

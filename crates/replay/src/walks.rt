@@ -3,6 +3,80 @@ ghost use Prim.Native.Nat.{_≤_};
 use super::record;
 use findf::Reflectrix;
 
+// A reflectrix has 374 words, in the order of its fields. Here is where each of them stands, in bytes.
+const DELFX: usize = 0;
+
+const HPFLX: usize = DELFX + COLUMN;
+
+const HTFLX: usize = HPFLX + COLUMN;
+
+const GDFLX: usize = HTFLX + COLUMN;
+
+const FVFLX: usize = GDFLX + COLUMN;
+
+const AFFLX: usize = FVFLX + COLUMN;
+
+const IMODE: usize = AFFLX + COLUMN;
+
+const KIND: usize = IMODE + COLUMN;
+
+const DSKPKM: usize = KIND + COLUMN;
+
+const DELSKP: usize = DSKPKM + record::WORD;
+
+const HPSKP: usize = DELSKP + record::WORD;
+
+const HTSKP: usize = HPSKP + record::WORD;
+
+const DMAXKM: usize = HTSKP + record::WORD;
+
+const FVSKP: usize = DMAXKM + record::WORD;
+
+const ISKP: usize = FVSKP + record::WORD;
+
+const DELPEN: usize = ISKP + record::WORD;
+
+const IAFTXR: usize = DELPEN + THREE;
+
+const ROWS: usize = IAFTXR + record::COUNT;
+
+pub(crate) const REFLECTRIX: usize = ROWS + record::COUNT;
+
+// Of a record: the reflectrix; k, nang, freq, amind, fi, the four tables, ifob; then the number, the looks and the reflectrix.
+const K: usize = REFLECTRIX;
+
+const NANG: usize = K + record::COUNT;
+
+const FREQ: usize = NANG + record::COUNT;
+
+const AMIND: usize = FREQ + record::WORD;
+
+const FI: usize = AMIND + record::WORD;
+
+const FVERT: usize = FI + 5 * THREE;
+
+const HPRIM: usize = FVERT + TABLE;
+
+const HTRUE: usize = HPRIM + TABLE;
+
+const AFAC: usize = HTRUE + TABLE;
+
+const IFOB: usize = AFAC + TABLE;
+
+pub(crate) const ANSWER: usize = IFOB + 1200 * record::WORD;
+
+const LOOKS: usize = ANSWER + record::WORD;
+
+const LEFT: usize = LOOKS + record::WORD;
+
+pub(crate) const SIZE: usize = LEFT + REFLECTRIX;
+
+const COLUMN: usize = 45 * record::WORD;
+
+const TABLE: usize = 30 * record::WORD;
+
+const THREE: usize = 3 * record::WORD;
+
 fn column(r: &[u8], at: usize) -> [f32; 45]
     requires { ⌜ at ≤ 10000 ⌝ }
 {
@@ -17,7 +91,7 @@ fn is_column(r: &[u8], at: usize, xs: [f32; 45]) -> bool
     record::are_floats(r, at, &xs)
 }
 
-fn layers(r: &[u8], at: usize) -> [u32; 45]
+fn codes(r: &[u8], at: usize) -> [u32; 45]
     requires { ⌜ at ≤ 10000 ⌝ }
 {
     let mut ns = [0u32; 45];
@@ -25,7 +99,7 @@ fn layers(r: &[u8], at: usize) -> [u32; 45]
     ns
 }
 
-fn are_layers(r: &[u8], at: usize, ns: [u32; 45]) -> bool
+fn are_codes(r: &[u8], at: usize, ns: [u32; 45]) -> bool
     requires { ⌜ at ≤ 10000 ⌝ }
 {
     record::are_naturals(r, at, &ns)
@@ -52,8 +126,8 @@ fn three(r: &[u8], at: usize) -> [f32; 3]
 {
     [
         record::float(r, at),
-        record::float(r, at + 4),
-        record::float(r, at + 8),
+        record::float(r, at + record::WORD),
+        record::float(r, at + 2 * record::WORD),
     ]
 }
 
@@ -66,34 +140,34 @@ fn are_three(r: &[u8], at: usize, xs: [f32; 3]) -> bool
 // The five points' critical frequencies.
 fn points(r: &[u8]) -> [[f32; 3]; 5] {
     [
-        three(r, 1340),
-        three(r, 1352),
-        three(r, 1364),
-        three(r, 1376),
-        three(r, 1388),
+        three(r, FI),
+        three(r, FI + THREE),
+        three(r, FI + 2 * THREE),
+        three(r, FI + 3 * THREE),
+        three(r, FI + 4 * THREE),
     ]
 }
 
-// A reflectrix has 329 words, in the order of its fields.
 pub(crate) fn reflectrix(r: &[u8]) -> Reflectrix {
     Reflectrix {
-        delfx: column(r, 0),
-        hpflx: column(r, 180),
-        htflx: column(r, 360),
-        gdflx: column(r, 540),
-        fvflx: column(r, 720),
-        afflx: column(r, 900),
-        imode: layers(r, 1080),
-        dskpkm: record::float(r, 1260),
-        delskp: record::float(r, 1264),
-        hpskp: record::float(r, 1268),
-        htskp: record::float(r, 1272),
-        dmaxkm: record::float(r, 1276),
-        fvskp: record::float(r, 1280),
-        iskp: words::word(r, 1284),
-        delpen: three(r, 1288),
-        iaftxr: record::count(r, 1300),
-        rows_this_call: record::count(r, 1308),
+        delfx: column(r, DELFX),
+        hpflx: column(r, HPFLX),
+        htflx: column(r, HTFLX),
+        gdflx: column(r, GDFLX),
+        fvflx: column(r, FVFLX),
+        afflx: column(r, AFFLX),
+        imode: codes(r, IMODE),
+        kind: codes(r, KIND),
+        dskpkm: record::float(r, DSKPKM),
+        delskp: record::float(r, DELSKP),
+        hpskp: record::float(r, HPSKP),
+        htskp: record::float(r, HTSKP),
+        dmaxkm: record::float(r, DMAXKM),
+        fvskp: record::float(r, FVSKP),
+        iskp: words::word(r, ISKP),
+        delpen: three(r, DELPEN),
+        iaftxr: record::count(r, IAFTXR),
+        rows_this_call: record::count(r, ROWS),
     }
 }
 
@@ -105,51 +179,52 @@ fn are_columns(r: &[u8], rfx: Reflectrix) -> bool {
     let fvflx = rfx.fvflx;
     let afflx = rfx.afflx;
     let imode = rfx.imode;
-    is_column(r, 0, delfx)
-        & is_column(r, 180, hpflx)
-        & is_column(r, 360, htflx)
-        & is_column(r, 540, gdflx)
-        & is_column(r, 720, fvflx)
-        & is_column(r, 900, afflx)
-        & are_layers(r, 1080, imode)
+    let kind = rfx.kind;
+    is_column(r, DELFX, delfx)
+        & is_column(r, HPFLX, hpflx)
+        & is_column(r, HTFLX, htflx)
+        & is_column(r, GDFLX, gdflx)
+        & is_column(r, FVFLX, fvflx)
+        & is_column(r, AFFLX, afflx)
+        & are_codes(r, IMODE, imode)
+        & are_codes(r, KIND, kind)
 }
 
 fn are_figures(r: &[u8], rfx: Reflectrix) -> bool {
     let delpen = rfx.delpen;
-    record::is_float(r, 1260, rfx.dskpkm)
-        & record::is_float(r, 1264, rfx.delskp)
-        & record::is_float(r, 1268, rfx.hpskp)
-        & record::is_float(r, 1272, rfx.htskp)
-        & record::is_float(r, 1276, rfx.dmaxkm)
-        & record::is_float(r, 1280, rfx.fvskp)
-        & (words::word(r, 1284) == rfx.iskp)
-        & are_three(r, 1288, delpen)
-        & (record::count(r, 1300) == rfx.iaftxr)
-        & (record::count(r, 1308) == rfx.rows_this_call)
+    record::is_float(r, DSKPKM, rfx.dskpkm)
+        & record::is_float(r, DELSKP, rfx.delskp)
+        & record::is_float(r, HPSKP, rfx.hpskp)
+        & record::is_float(r, HTSKP, rfx.htskp)
+        & record::is_float(r, DMAXKM, rfx.dmaxkm)
+        & record::is_float(r, FVSKP, rfx.fvskp)
+        & (words::word(r, ISKP) == rfx.iskp)
+        & are_three(r, DELPEN, delpen)
+        & (record::count(r, IAFTXR) == rfx.iaftxr)
+        & (record::count(r, ROWS) == rfx.rows_this_call)
 }
 
-// The reflectrix; k, nang, freq, amind, fi, the four tables, ifob; then the number, the looks and the reflectrix.
 pub(crate) fn agrees(r: &[u8]) -> bool {
-    if r.len() < 8004 {
+    if r.len() < SIZE {
         return false;
     }
-    let left = &r[6688..];
+    let left = &r[LEFT..];
     let w = findf::findf(
         reflectrix(r),
-        record::count(r, 1316),
-        record::count(r, 1324),
-        record::float(r, 1332),
-        record::float(r, 1336),
+        record::count(r, K),
+        record::count(r, NANG),
+        record::float(r, FREQ),
+        record::float(r, AMIND),
         points(r),
-        table(r, 1400),
-        table(r, 1520),
-        table(r, 1640),
-        table(r, 1760),
-        entries(r, 1880),
+        table(r, FVERT),
+        table(r, HPRIM),
+        table(r, HTRUE),
+        table(r, AFAC),
+        entries(r, IFOB),
     );
     let rfx = w.rfx;
-    (words::word(r, 6680) == w.refusal)
-        & (words::word(r, 6684) == w.looks)
+    (words::word(r, ANSWER) == w.refusal)
+        & (words::word(r, LOOKS) == w.looks)
         & are_columns(left, rfx)
         & are_figures(left, rfx)
 }

@@ -42,6 +42,52 @@ impl fmt::Debug for Layer {
     }
 }
 
+/// How a row of the reflectrix came about.
+///
+/// ```
+/// use ray::{Job, Kind};
+///
+/// let answer = Job::from_bytes(include_bytes!("../../../jobs/noon.job"))?.solve()?;
+/// let rows: Vec<_> = answer.rows().collect();
+/// let cusp = rows.iter().position(|row| row.kind == Kind::Cusp).unwrap();
+/// assert_eq!(rows[cusp].angle, answer.penetration_angles()[0]);
+/// assert_eq!(rows[cusp + 1].kind, Kind::AfterCusp);
+/// assert!(rows[cusp].layer < rows[cusp + 1].layer);
+/// # Ok::<(), ray::Refusal>(())
+/// ```
+#[derive(Clone, Copy, Debug, PartialEq, Eq, Hash)]
+pub enum Kind {
+    /// Of a row that was not written, 0. No row of [`Answer::rows`] has it.
+    Unwritten,
+    /// Read off a row of the tables, 1: its entry at that angle is the frequency, or the layer's
+    /// lowest entry there is not below it.
+    Exact,
+    /// Between two rows of the tables, 2.
+    Interpolated,
+    /// The last row of a layer, at the angle above which the wave pierces the layer, 3.
+    Cusp,
+    /// The first row of the next layer, 0.001 degrees above the cusp before it, 4.
+    AfterCusp,
+}
+
+impl Kind {
+    fn of(number: u32) -> Kind {
+        match number {
+            1 => Kind::Exact,
+            2 => Kind::Interpolated,
+            3 => Kind::Cusp,
+            4 => Kind::AfterCusp,
+            // The library writes no other than 0.
+            _ => Kind::Unwritten,
+        }
+    }
+
+    /// The number in the answer.
+    pub fn number(self) -> u32 {
+        self as u32
+    }
+}
+
 /// A row of the reflectrix: one take-off angle, and where the wave then goes.
 #[derive(Clone, Copy, Debug, PartialEq)]
 #[non_exhaustive]
@@ -60,6 +106,8 @@ pub struct Row {
     pub absorption: f32,
     /// The layer, `imode`.
     pub layer: Layer,
+    /// How the row came about, `kind`.
+    pub kind: Kind,
 }
 
 /// What a slot holds: an angle at which the asked hop is made.
@@ -169,6 +217,7 @@ impl Answer {
             frequency: self.float(place::FVFLX + i),
             absorption: self.float(place::AFFLX + i),
             layer: Layer(self.word(place::IMODE + i)),
+            kind: Kind::of(self.word(place::KIND + i)),
         })
     }
 

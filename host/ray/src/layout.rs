@@ -78,6 +78,7 @@ pub mod answer {
         FVFLX COLUMN_ROWS, "The rows' vertical frequencies in MHz.";
         AFFLX COLUMN_ROWS, "The rows' absorption factors.";
         IMODE COLUMN_ROWS, "The rows' layers; unsigned.";
+        KIND COLUMN_ROWS, "The rows' kinds; unsigned.";
         DELMOD SLOTS, "The slots' take-off angles in degrees.";
         HPMOD SLOTS, "The slots' virtual heights in km, with a minus where too low.";
         HTMOD SLOTS, "The slots' true heights in km.";

@@ -47,7 +47,7 @@ mod job;
 pub mod layout;
 mod refusal;
 
-pub use answer::{Answer, Layer, Ray, Row, Skip, Slot};
+pub use answer::{Answer, Kind, Layer, Ray, Row, Skip, Slot};
 pub use builder::{Field, JobBuilder, OutOfRange, Range};
 pub use es::{Es, EsHop, EsModes, EsPoint};
 pub use job::{Job, Oblique, Table};

@@ -42,7 +42,7 @@ macro_rules! refusals {
 
 refusals! {
     JOB 1, "the job is not 5360 bytes long";
-    ANSWER 2, "the answer is not 1460 bytes long";
+    ANSWER 2, "the answer is not 1640 bytes long";
     K 3, "the point k is not within 0 to 4";
     NANG 4, "the number of table angles, nang, is not within 0 to 40";
     FREQ 5, "the frequency, freq, is not within 2 to 30 MHz";

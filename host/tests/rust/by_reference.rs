@@ -20,6 +20,7 @@ fn used_reflectrix() -> Reflectrix {
         fvflx: [4.5; 45],
         afflx: [0.25; 45],
         imode: [7; 45],
+        kind: [10; 45],
         dskpkm: 1.0,
         delskp: 2.0,
         hpskp: 3.0,

@@ -12,6 +12,7 @@ fn findf_on_realistic_jobs() {
     tally.print("findf, realistic");
     assert_eq!(tally.refusals[0], 100_000);
     assert!(tally.layers.iter().all(|jobs| *jobs > 10_000), "{:?}", tally.layers);
+    assert!(tally.kinds.iter().all(|rows| *rows > 2_000), "{:?}", tally.kinds);
 }
 
 #[test]
@@ -20,6 +21,7 @@ fn findf_on_adversarial_jobs() {
     tally.print("findf, adversarial");
     assert_eq!(tally.refusals[0], 200_000);
     assert!(tally.layers.iter().all(|jobs| *jobs > 20_000), "{:?}", tally.layers);
+    assert!(tally.kinds.iter().all(|rows| *rows > 50_000), "{:?}", tally.kinds);
     assert!(tally.dead > 20_000, "{}", tally.dead);
     assert!(tally.nan > 2_000, "{}", tally.nan);
     // Document 01's bounds, which some jobs reach.

@@ -9,6 +9,7 @@ fn realistic_jobs() {
     tally.print("realistic jobs");
     assert_eq!(tally.refusals[0], 100_000);
     assert!(tally.layers.iter().all(|jobs| *jobs > 10_000), "{:?}", tally.layers);
+    assert!(tally.kinds.iter().all(|rows| *rows > 2_000), "{:?}", tally.kinds);
     assert!(tally.rays[..6].iter().all(|jobs| *jobs > 100), "{:?}", tally.rays);
     assert!(tally.standing > 25_000, "{}", tally.standing);
 }
@@ -19,6 +20,7 @@ fn adversarial_jobs() {
     tally.print("adversarial jobs");
     assert_eq!(tally.refusals[0], 200_000);
     assert!(tally.layers.iter().all(|jobs| *jobs > 20_000), "{:?}", tally.layers);
+    assert!(tally.kinds.iter().all(|rows| *rows > 50_000), "{:?}", tally.kinds);
     assert!(tally.dead > 20_000, "{}", tally.dead);
     assert!(tally.nan > 2_000, "{}", tally.nan);
     // Document 01's bounds, which some jobs reach; with 44 rows the last pair tried is the 43rd.
@@ -40,8 +42,8 @@ fn jobs_about_the_limits() {
     }
 }
 
-/// The benchmark's peers do what is timed: they answer as the Rust as it comes, and the one with
-/// limits refuses by them.
+/// The benchmark's peers do what is timed: they answer as the Rust as it comes, which has no kinds, and
+/// the one with limits refuses by them.
 #[test]
 fn the_peers_answer_as_the_rust_as_it_comes() {
     let mut prng = Prng::new(40);
@@ -57,7 +59,8 @@ fn the_peers_answer_as_the_rust_as_it_comes() {
                 continue;
             }
             let expected = solved_by(&counted_as_it_comes::VARIANT, &job);
-            let expected = Answer { looks: 0, pairs: 0, ..expected }.bytes();
+            let kind = [u32::from_le_bytes([0xee; 4]); 45];
+            let expected = Answer { looks: 0, pairs: 0, kind, ..expected }.bytes();
             assert!(answer == expected);
             let mut answer = [0xee; Answer::BYTES];
             assert_eq!(peer::unchecked_job(&bytes, &mut answer), 0);

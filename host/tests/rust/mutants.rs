@@ -1,9 +1,9 @@
 //! The comparisons find each slip of document 01's "Where a porter slips", each of its "Versions that
-//! earn nothing" and slips of order 1: they are put in the library's place, and the very checks that
-//! the library passes must find a difference.
+//! earn nothing" and slips of orders 1 and 2: they are put in the library's place, and the very checks
+//! that the library passes must find a difference.
 
 use host::demand;
-use host::entries::{EsJob, EsModes, FindfJob, Reflectrix};
+use host::entries::{EsJob, EsModes, FindfJob, Reflectrix, Walked};
 use host::findf::Walk;
 use host::job::{self, adversarial, check_jobs, realistic, Answer, Call, Job, KINDS};
 use host::limits;
@@ -63,12 +63,17 @@ macro_rules! walk {
 /// Cleared columns: from the all-zero reflectrix, from which every job starts, they do not show.
 const CLEARED: [(&Variant, Walk); 2] = [walk!(htflx_cleared), walk!(imode_cleared)];
 
+/// What findf's comparison finds in a walk on used reflectrices.
+fn found_in_walk(walk: Walk) -> Option<String> {
+    findf::check_jobs(&[walk], 32, JOBS, findf::realistic).err()
+}
+
 #[test]
 fn cleared_columns_are_found_on_used_reflectrices() {
-    let found = |walk: Walk| findf::check_jobs(&[walk], 32, JOBS, findf::realistic).err();
-    assert_eq!(found(walk!(counted).1), None);
+    assert_eq!(found_in_walk(walk!(counted).1), None);
     for (slip, walk) in CLEARED {
-        let difference = found(walk).unwrap_or_else(|| panic!("{} is not found", slip.name));
+        let found = found_in_walk(walk);
+        let difference = found.unwrap_or_else(|| panic!("{} is not found", slip.name));
         println!("{}: {difference}", slip.name);
         assert_eq!(found_in(slip), None, "{}", slip.name);
     }
@@ -122,15 +127,19 @@ fn leaves_the_answer_unwritten(job: &[u8], answer: &mut [u8]) -> u32 {
     limits::job(job, answer.len())
 }
 
-/// One stored reflectrix for every job, with a true search on it.
-fn stores_one_reflectrix(job: &[u8], answer: &mut [u8]) -> u32 {
+/// A job call as it should be, but for the walk.
+fn by_walk(job: &[u8], answer: &mut [u8], walk: impl Fn(Reflectrix, &FindfJob) -> Walked) -> u32 {
     let number = limits::job(job, answer.len());
     if number == 0 {
-        let stored = realistic(&mut Prng::new(33));
-        let walk = |old: Reflectrix, _: &_| findf::led(old, &stored.walk);
         answer.copy_from_slice(&job::solved(&Job::read(job), walk, fdist::led).0.bytes());
     }
     number
+}
+
+/// One stored reflectrix for every job, with a true search on it.
+fn stores_one_reflectrix(job: &[u8], answer: &mut [u8]) -> u32 {
+    let stored = realistic(&mut Prng::new(33));
+    by_walk(job, answer, |old, _| findf::led(old, &stored.walk))
 }
 
 fn turns_each_job_back(job: &[u8], answer: &mut [u8]) -> u32 {
@@ -189,16 +198,11 @@ thread_local! {
 
 /// Starts not from the all-zero reflectrix but from what the job before left.
 fn starts_from_the_last_reflectrix(job: &[u8], answer: &mut [u8]) -> u32 {
-    let number = limits::job(job, answer.len());
-    if number == 0 {
-        let walk = |_: Reflectrix, job: &_| {
-            let walked = findf::led(LEFT.get(), job);
-            LEFT.set(walked.rfx);
-            walked
-        };
-        answer.copy_from_slice(&job::solved(&Job::read(job), walk, fdist::led).0.bytes());
-    }
-    number
+    by_walk(job, answer, |_, walk| {
+        let walked = findf::led(LEFT.get(), walk);
+        LEFT.set(walked.rfx);
+        walked
+    })
 }
 
 const OTHERS: [Version; 4] = [
@@ -213,6 +217,60 @@ fn other_wrong_versions_are_found() {
     for (name, call) in OTHERS {
         let found = found(&call).unwrap_or_else(|| panic!("{name}: is not found"));
         println!("{name}: {found}");
+    }
+}
+
+/// A walk as it should be, with other kinds: these are told the old reflectrix and the new one.
+fn with_kinds(
+    old: Reflectrix,
+    job: &FindfJob,
+    kind: impl Fn(&Reflectrix, &Reflectrix) -> [u32; 45],
+) -> Walked {
+    let walked = findf::led(old, job);
+    let kind = kind(&old, &walked.rfx);
+    Walked { rfx: Reflectrix { kind, ..walked.rfx }, ..walked }
+}
+
+/// Rows that are not written keep the kinds that they had.
+fn clears_no_kinds(old: Reflectrix, job: &FindfJob) -> Walked {
+    with_kinds(old, job, |old, new| {
+        let rows = new.rows_this_call;
+        std::array::from_fn(|row| if row < rows { new.kind[row] } else { old.kind[row] })
+    })
+}
+
+fn takes_kinds_from_imode(old: Reflectrix, job: &FindfJob) -> Walked {
+    with_kinds(old, job, |_, new| {
+        let rows = new.rows_this_call;
+        std::array::from_fn(|row| if row < rows { new.imode[row] } else { 0 })
+    })
+}
+
+/// Says cusp of the row after it, too.
+fn takes_no_row_for_one_after_a_cusp(old: Reflectrix, job: &FindfJob) -> Walked {
+    with_kinds(old, job, |_, new| new.kind.map(|kind| kind.min(3)))
+}
+
+/// Says interpolated of an exact row, too.
+fn takes_no_row_for_exact(old: Reflectrix, job: &FindfJob) -> Walked {
+    with_kinds(old, job, |_, new| new.kind.map(|kind| if kind == 1 { 2 } else { kind }))
+}
+
+/// Slips of order 2 by name, and whether a job shows them, which starts with no kinds.
+const KIND_SLIPS: [(&str, Walk, bool); 4] = [
+    ("kinds not cleared", clears_no_kinds, false),
+    ("kind taken from imode", takes_kinds_from_imode, true),
+    ("a row after a cusp taken for a cusp", takes_no_row_for_one_after_a_cusp, true),
+    ("an exact row taken for an interpolated one", takes_no_row_for_exact, true),
+];
+
+#[test]
+fn wrong_kinds_are_found() {
+    for (name, walk, shows) in KIND_SLIPS {
+        let difference = found_in_walk(walk).unwrap_or_else(|| panic!("{name}: is not found"));
+        println!("{name}: {difference}");
+        let in_jobs = found(&move |job, answer| by_walk(job, answer, walk));
+        assert_eq!(in_jobs.is_some(), shows, "{name}: {in_jobs:?}");
     }
 }
 

@@ -13,6 +13,13 @@ type Search = fn(HopModes, &FdistJob) -> Searched;
 /// Stands for a count that nothing counts.
 const UNCOUNTED: u32 = u32::MAX;
 
+/// The kinds of one row, a cusp's.
+const CUSP_ALONE: [u32; 45] = {
+    let mut kinds = [0; 45];
+    kinds[0] = 3;
+    kinds
+};
+
 fn check_count(count: u32, expected: u32) {
     assert!(count == expected || count == UNCOUNTED, "{count}, not {expected}");
 }
@@ -84,6 +91,10 @@ fn check(findf: Walk, fdist: Search) {
     let Walked { rfx, looks, .. } = walk(findf, 2.0, 40);
     assert_eq!((rfx.rows_this_call, rfx.delfx[0], rfx.imode[0]), (1, 89.9, 1));
     check_count(looks, 48);
+    // By order 2 the row is a cusp's; what counts nothing notes no kind.
+    if looks != UNCOUNTED {
+        assert_eq!(rfx.kind, CUSP_ALONE);
+    }
 
     // The first slot's height, and its layer: the number of the row that gave it.
     let found = |lengths: &[f32], dmaxkm: f32, amind: f32, expected: [u32; 2]| {
@@ -121,6 +132,7 @@ fn check_job_call(call: &Call) {
 
     let a = answer(2.0, 40);
     assert_eq!((a.looks, a.rows, a.delfx[0], a.imode[0]), (48, 1, 89.9, 1));
+    assert_eq!(a.kind, CUSP_ALONE);
 }
 
 #[test]
