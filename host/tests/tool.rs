@@ -450,58 +450,73 @@ fn rows_have_the_letters_of_their_kinds() {
         let rows = words["rows"][0] as usize;
         let table = shown.text().split("\nREFLECTRIX").nth(1).unwrap();
         let lines: Vec<_> = table.lines().skip(4).take(rows).collect();
-        assert_eq!(lines.len(), if rows == 0 { 0 } else { rows }, "{name}");
+        assert_eq!(lines.len(), rows, "{name}");
         for (line, kind) in lines.iter().zip(&words["kind"]) {
             let letter = [b'?', b't', b'b', b'c', b'a'][*kind as usize];
             assert_eq!(&line.as_bytes()[8..13], [b' ', letter, b' ', b' ', b' '], "{name}: {line}");
             seen[*kind as usize] += 1;
         }
         assert!(words["kind"][rows..].iter().all(|kind| *kind == 0), "{name}");
-        let legend = "\n      row: t from the table, b between two entries, c cusp, a after a cusp\n";
+        let legend =
+            "\n      row: t from the table, b between two entries, c cusp, a after a cusp\n";
         assert_eq!(table.matches(legend).count(), usize::from(rows > 0), "{name}");
     }
     assert!(seen[0] == 0 && seen[1..].iter().all(|n| *n > 0), "{seen:?}");
 }
 
-/// A slot is marked where its virtual height, by its bits, is the one between a cusp row and the
-/// row after it.
+/// The slots of a sheet that are marked `across a cusp`, held to the answer: a ray whose virtual
+/// height and layer, by their bits, are those of a spot between a cusp row and the row after it.
+fn across(folder: &Folder, path: &Path, words: &HashMap<String, Vec<u32>>) -> Vec<usize> {
+    let float = |part: &str, at: usize| f32::from_bits(words[part][at]);
+    let job = fs::read(path).unwrap();
+    let asked = f32::from_bits(word(&job, GHOP)) * 6370.0;
+    let amind = f32::from_bits(word(&job, AMIND));
+    let between = |i: usize| {
+        let (g1, g2) = (float("gdflx", i), float("gdflx", i + 1));
+        let straddled = (g1 < asked && asked < g2) || (g2 < asked && asked < g1);
+        let (h1, h2) = (float("hpflx", i), float("hpflx", i + 1));
+        let height = h1 + (h2 - h1) * (asked - g1) / (g2 - g1);
+        straddled.then_some((height.to_bits(), words["imode"][i]))
+    };
+    let kinds = &words["kind"];
+    let cusps = (0..44).filter(|i| kinds[*i] == 3 && kinds[i + 1] == 4);
+    let cusps: Vec<_> = cusps.filter_map(between).collect();
+    let shown = folder.ray(&[OsStr::new("show"), path.as_os_str()]);
+    assert!(shown.text().lines().all(|line| line.len() <= 78 && !line.ends_with(' ')));
+    assert!(shown.text().is_ascii());
+    let slots = shown.text().split("\nRAYS for ").nth(1).unwrap();
+    let marked = slots.lines().skip(4).take(6).enumerate().filter(|(slot, line)| {
+        assert!(line.starts_with(&format!("  {} ", slot + 1)), "{line}");
+        let ray = words["itmod"][*slot] != 5 && float("delmod", *slot) >= amind;
+        let made = (words["hpmod"][*slot], words["itmod"][*slot]);
+        let found = line.contains(" across a cusp ");
+        assert_eq!(found, ray && cusps.contains(&made), "{}: {line}", path.display());
+        found
+    });
+    marked.map(|(slot, _)| slot + 1).collect()
+}
+
 #[test]
 fn rays_across_a_cusp_are_marked() {
     let folder = Folder::new("cusps");
-    let mut seen = Vec::new();
+    let mut seen = HashMap::new();
     for (name, path, words) in accepted(&folder) {
-        let float = |part: &str, at: usize| f32::from_bits(words[part][at]);
-        let job = fs::read(&path).unwrap();
-        let asked = f32::from_bits(word(&job, GHOP)) * 6370.0;
-        let amind = f32::from_bits(word(&job, AMIND));
-        let between = |i: usize| {
-            let (g1, g2) = (float("gdflx", i), float("gdflx", i + 1));
-            let straddled = (g1 < asked && asked < g2) || (g2 < asked && asked < g1);
-            let (h1, h2) = (float("hpflx", i), float("hpflx", i + 1));
-            let height = h1 + (h2 - h1) * (asked - g1) / (g2 - g1);
-            straddled.then_some((height.to_bits(), words["imode"][i]))
-        };
-        let cusps: Vec<_> = (0..44)
-            .filter(|i| words["kind"][*i] == 3 && words["kind"][i + 1] == 4)
-            .filter_map(between)
-            .collect();
-        let shown = folder.ray(&[OsStr::new("show"), path.as_os_str()]);
-        let slots = shown.text().split("MHz\n").nth(2).unwrap();
-        for (slot, line) in slots.lines().take(6).enumerate() {
-            let ray = words["itmod"][slot] != 5 && float("delmod", slot) >= amind;
-            let made = (words["hpmod"][slot], words["itmod"][slot]);
-            let across = ray && cusps.contains(&made);
-            assert_eq!(line.contains(" across a cusp "), across, "{name}: {line}");
-            assert_eq!(line.contains("cusp"), across, "{name}: {line}");
-            if across {
-                seen.push(format!("{name} {}", slot + 1));
-            }
-        }
-        assert!(shown.text().lines().all(|line| line.len() <= 78 && !line.ends_with(' ')));
-        assert!(shown.text().is_ascii(), "{name}");
+        seen.insert(name, across(&folder, &path, &words));
     }
-    assert!(seen.contains(&"noon 2".to_string()), "{seen:?}");
-    assert_eq!(seen.iter().filter(|s| s.starts_with("six-rays ")).count(), 2, "{seen:?}");
+    assert_eq!((&seen["noon"][..], &seen["six-rays"][..]), (&[2][..], &[2, 4][..]));
+    // Other lengths over the same tables.
+    let mut marked = 0;
+    for name in ["noon", "six-rays", "overhead", "x-near-rays", "x-zigzag-44"] {
+        let path = sample(name);
+        for hop in (50..3_000).step_by(59) {
+            let hop = hop.to_string();
+            let words = ["ask", path.to_str().unwrap(), "moved.job", "hop", &hop];
+            folder.ray(&words).does();
+            let words = listed(&folder.ray(&["words", "moved.job"]));
+            marked += across(&folder, &folder.file("moved.job"), &words).len();
+        }
+    }
+    assert!(marked > 20, "{marked}");
 }
 
 /// Rows of kinds 3 and 4 and rows below 0 km are hollow, and three marks of the legend.
