@@ -6,6 +6,7 @@ use host::entries;
 use host::job::Answer;
 use host::prng::Prng;
 use host::samples::{es_samples, summer, EsFile};
+use std::collections::HashMap;
 use std::ffi::{OsStr, OsString};
 use std::fs::{self, File};
 use std::io::Write;
@@ -393,7 +394,7 @@ fn words_have_their_names_and_values() {
     let folder = Folder::new("words");
     let listed = folder.ray(&["words", "noon.job"]);
     let lines: Vec<_> = listed.text().lines().collect();
-    assert_eq!(lines.len(), 366);
+    assert_eq!(lines.len(), 411);
     for line in [
         "   0  rows                25         00000019",
         "   3  delpen  1        8.942 deg     410F139D",
@@ -403,15 +404,141 @@ fn words_have_their_names_and_values() {
         assert_eq!(lines.iter().filter(|l| **l == line).count(), 1, "{line}");
     }
     // Each part's words, in the order of the layout.
-    let names: Vec<_> = lines[1..].iter().map(|l| l[6..12].trim_end_matches([' ', '1'])).collect();
+    let names: Vec<_> =
+        lines[1..].iter().map(|line| line.split_whitespace().nth(1).unwrap()).collect();
     let mut parts = names.clone();
     parts.dedup();
     let expected =
         "rows looks pairs delpen dskpkm delskp hpskp htskp dmaxkm fvskp iskp iaftxr delfx \
-                    hpflx htflx gdflx fvflx afflx imode delmod hpmod htmod fvmod itmod afmod";
+                    hpflx htflx gdflx fvflx afflx imode kind delmod hpmod htmod fvmod itmod afmod";
     assert_eq!(parts, expected.split_whitespace().collect::<Vec<_>>());
-    for (name, count) in [("delpen", 3), ("delfx", 45), ("imode", 45), ("afmod", 6)] {
+    for (name, count) in [("delpen", 3), ("delfx", 45), ("imode", 45), ("kind", 45), ("afmod", 6)] {
         assert_eq!(names.iter().filter(|n| **n == name).count(), count, "{name}");
+    }
+}
+
+/// An answer's words by name, as `words` lists them.
+fn listed(ran: &Ran) -> HashMap<String, Vec<u32>> {
+    let mut parts: HashMap<String, Vec<u32>> = HashMap::new();
+    for line in ran.text().lines().skip(1) {
+        let words: Vec<_> = line.split_whitespace().collect();
+        let bits = u32::from_str_radix(words.last().unwrap(), 16).unwrap();
+        parts.entry(words[1].to_string()).or_default().push(bits);
+    }
+    parts
+}
+
+/// The accepted samples: name, path, the answer's words.
+fn accepted(folder: &Folder) -> Vec<(String, PathBuf, HashMap<String, Vec<u32>>)> {
+    let entries = fs::read_dir(top().join("jobs")).unwrap().map(|entry| entry.unwrap().path());
+    let jobs = entries.filter(|path| path.extension() == Some(OsStr::new("job")));
+    let ran = jobs.map(|path| (folder.ray(&[OsStr::new("words"), path.as_os_str()]), path));
+    ran.filter(|(ran, _)| ran.status == 0)
+        .map(|(ran, path)| {
+            (path.file_stem().unwrap().to_str().unwrap().to_string(), path, listed(&ran))
+        })
+        .collect()
+}
+
+/// Behind each row's layer stands the letter of its kind, and nothing else moved.
+#[test]
+fn rows_have_the_letters_of_their_kinds() {
+    let folder = Folder::new("kinds");
+    let mut seen = [0; 5];
+    for (name, path, words) in accepted(&folder) {
+        let shown = folder.ray(&[OsStr::new("show"), path.as_os_str()]);
+        let rows = words["rows"][0] as usize;
+        let table = shown.text().split("\nREFLECTRIX").nth(1).unwrap();
+        let lines: Vec<_> = table.lines().skip(4).take(rows).collect();
+        assert_eq!(lines.len(), rows, "{name}");
+        for (line, kind) in lines.iter().zip(&words["kind"]) {
+            let letter = [b'?', b't', b'b', b'c', b'a'][*kind as usize];
+            assert_eq!(&line.as_bytes()[8..13], [b' ', letter, b' ', b' ', b' '], "{name}: {line}");
+            seen[*kind as usize] += 1;
+        }
+        assert!(words["kind"][rows..].iter().all(|kind| *kind == 0), "{name}");
+        let legend =
+            "\n      row: t from the table, b between two entries, c cusp, a after a cusp\n";
+        assert_eq!(table.matches(legend).count(), usize::from(rows > 0), "{name}");
+    }
+    assert!(seen[0] == 0 && seen[1..].iter().all(|n| *n > 0), "{seen:?}");
+}
+
+/// The slots of a sheet that are marked `across a cusp`, held to the answer: a ray whose virtual
+/// height and layer, by their bits, are those of a spot between a cusp row and the row after it.
+fn across(folder: &Folder, path: &Path, words: &HashMap<String, Vec<u32>>) -> Vec<usize> {
+    let float = |part: &str, at: usize| f32::from_bits(words[part][at]);
+    let job = fs::read(path).unwrap();
+    let asked = f32::from_bits(word(&job, GHOP)) * 6370.0;
+    let amind = f32::from_bits(word(&job, AMIND));
+    let between = |i: usize| {
+        let (g1, g2) = (float("gdflx", i), float("gdflx", i + 1));
+        let straddled = (g1 < asked && asked < g2) || (g2 < asked && asked < g1);
+        let (h1, h2) = (float("hpflx", i), float("hpflx", i + 1));
+        let height = h1 + (h2 - h1) * (asked - g1) / (g2 - g1);
+        straddled.then_some((height.to_bits(), words["imode"][i]))
+    };
+    let kinds = &words["kind"];
+    let cusps = (0..44).filter(|i| kinds[*i] == 3 && kinds[i + 1] == 4);
+    let cusps: Vec<_> = cusps.filter_map(between).collect();
+    let shown = folder.ray(&[OsStr::new("show"), path.as_os_str()]);
+    assert!(shown.text().lines().all(|line| line.len() <= 78 && !line.ends_with(' ')));
+    assert!(shown.text().is_ascii());
+    let slots = shown.text().split("\nRAYS for ").nth(1).unwrap();
+    let marked = slots.lines().skip(4).take(6).enumerate().filter(|(slot, line)| {
+        assert!(line.starts_with(&format!("  {} ", slot + 1)), "{line}");
+        let ray = words["itmod"][*slot] != 5 && float("delmod", *slot) >= amind;
+        let made = (words["hpmod"][*slot], words["itmod"][*slot]);
+        let found = line.contains(" across a cusp ");
+        assert_eq!(found, ray && cusps.contains(&made), "{}: {line}", path.display());
+        found
+    });
+    marked.map(|(slot, _)| slot + 1).collect()
+}
+
+#[test]
+fn rays_across_a_cusp_are_marked() {
+    let folder = Folder::new("cusps");
+    let mut seen = HashMap::new();
+    for (name, path, words) in accepted(&folder) {
+        seen.insert(name, across(&folder, &path, &words));
+    }
+    assert_eq!((&seen["noon"][..], &seen["six-rays"][..]), (&[2][..], &[2, 4][..]));
+    // Other lengths over the same tables.
+    let mut marked = 0;
+    for name in ["noon", "six-rays", "overhead", "x-near-rays", "x-zigzag-44"] {
+        let path = sample(name);
+        for hop in (50..3_000).step_by(59) {
+            let hop = hop.to_string();
+            let words = ["ask", path.to_str().unwrap(), "moved.job", "hop", &hop];
+            folder.ray(&words).does();
+            let words = listed(&folder.ray(&["words", "moved.job"]));
+            marked += across(&folder, &folder.file("moved.job"), &words).len();
+        }
+    }
+    assert!(marked > 20, "{marked}");
+}
+
+/// Rows of kinds 3 and 4 and rows below 0 km are hollow, and three marks of the legend.
+#[test]
+fn rows_at_a_cusp_are_hollow() {
+    let folder = Folder::new("hollow");
+    for (name, path, words) in accepted(&folder) {
+        let drawn = folder.ray(&[OsStr::new("draw"), path.as_os_str()]);
+        let drawn = drawn.text();
+        let rows = words["rows"][0] as usize;
+        let hollow = |row: &usize| {
+            let length = f32::from_bits(words["gdflx"][*row]);
+            length.is_finite() && (words["kind"][*row] >= 3 || length < -0.05)
+        };
+        let expected = 3 + (0..rows).filter(hollow).count();
+        let marks = drawn.lines().flat_map(|line| line.split("/>"));
+        let found = marks.filter(|mark| {
+            mark.contains("fill=\"#fff\" stroke=\"#")
+                && ["#c04a00", "#00805a", "#0060a8"].iter().any(|colour| mark.contains(colour))
+        });
+        assert_eq!(found.count(), expected, "{name}");
+        assert_eq!(drawn.matches(">made at a cusp<").count(), 1, "{name}");
     }
 }
 

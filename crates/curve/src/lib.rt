@@ -147,11 +147,12 @@ pub fn mark(layer: u32, x: u32, y: u32, hollow: bool, out: &mut [u8], at: usize)
     text(out, c, b"\" stroke=\"#fff\" stroke-width=\".8\"/>")
 }
 
-// Whether a row's mark is hollow: a row below 0 km.
+// Whether a row's mark is hollow: a row below 0 km, or one made at a cusp or after it.
 fn hollow(answer: &[u8], r: usize) -> bool
     requires { ⌜ r < 45 ⌝ }
 {
-    below(answer, r)
+    let kind = view::row_kind(answer, r);
+    below(answer, r) | view::is_cusp(kind) | view::is_after_cusp(kind)
 }
 
 fn row_mark(answer: &[u8], r: usize, across: u32, up: u32, out: &mut [u8], at: usize) -> usize

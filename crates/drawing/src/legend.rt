@@ -27,10 +27,23 @@ fn layers(answer: &[u8], out: &mut [u8], at: usize) -> usize {
     layer(answer, 3, 1900, 1950, out, c)
 }
 
+// The jump at a cusp, and the hollow marks of the rows there.
+fn cusps(out: &mut [u8], at: usize) -> usize {
+    let a = text(
+        out,
+        at,
+        b"<path d=\"M656 212h28\" stroke=\"#000\" stroke-width=\"1.2\" stroke-dasharray=\"5 4\"/><text x=\"692\" y=\"217\">jump at a cusp</text>\n",
+    );
+    let b = curve::mark(1, 6590, 2340, true, out, a);
+    let c = curve::mark(2, 6700, 2340, true, out, b);
+    let d = curve::mark(3, 6810, 2340, true, out, c);
+    text(out, d, b"<text x=\"692\" y=\"239\">made at a cusp</text>\n")
+}
+
 fn key(job: &[u8], answer: &[u8], out: &mut [u8], at: usize) -> usize {
     let v = [view::word(job, view::AMIND)];
     let a = filled(
-        b"<path d=\"M656 212h28\" stroke=\"#000\" stroke-width=\"1.2\" stroke-dasharray=\"5 4\"/><text x=\"692\" y=\"217\">jump at a cusp</text>\n<rect x=\"656\" y=\"233\" width=\"28\" height=\"9\" fill=\"#ececec\"/><path d=\"M656 233h28\" stroke=\"#000\" stroke-width=\"1.5\" stroke-dasharray=\"10 3 2 3\"/><text x=\"692\" y=\"238\">minimum @A3i deg</text>\n<text x=\"656\" y=\"276\" font-weight=\"bold\">",
+        b"<rect x=\"656\" y=\"255\" width=\"28\" height=\"9\" fill=\"#ececec\"/><path d=\"M656 255h28\" stroke=\"#000\" stroke-width=\"1.5\" stroke-dasharray=\"10 3 2 3\"/><text x=\"692\" y=\"260\">minimum @A3i deg</text>\n<text x=\"656\" y=\"298\" font-weight=\"bold\">",
         &v,
         out,
         at,
@@ -100,7 +113,8 @@ fn no_rows(answer: &[u8], out: &mut [u8], at: usize) -> usize {
 
 pub(crate) fn legend(job: &[u8], answer: &[u8], out: &mut [u8], at: usize) -> usize {
     let a = layers(answer, out, at);
-    let b = key(job, answer, out, a);
-    let c = notes(answer, out, b);
-    no_rows(answer, out, c)
+    let b = cusps(out, a);
+    let c = key(job, answer, out, b);
+    let d = notes(answer, out, c);
+    no_rows(answer, out, d)
 }

@@ -1,7 +1,7 @@
 -- What one tried pair gives (modes.rs lines 934 to 980; document 01, "A pair gives nothing, a row as it is, or a spot between with its two distances").
 -- Rows and pairs count from 0: pair i is rows i and i + 1, whose hop lengths are g1 and g2; d is the asked length.
 use Prim.Native.Nat.{ℕ, _+_}
-use mathlib.Core.Bool.{Bool, cond}
+use mathlib.Core.Bool.{Bool, true, false, cond}
 use lib.Ieee.{Float, lt, le, eq}
 use Rattle.arith.specs.Floats.{_⊖_, absOf}
 use Rattle.arith.specs.Numbers.{0·001}
@@ -40,3 +40,9 @@ abbrev pub nextOf : ℕ → Pair → ℕ
 nextOf i Nothing = i + 1
 nextOf i (Row k) = k + 1
 nextOf i (Spot dth dth2) = i + 1
+
+-- does the pair give a spot between its rows?
+abbrev pub isSpot : Pair → Bool
+isSpot Nothing = false
+isSpot (Row k) = false
+isSpot (Spot dth dth2) = true

@@ -9,6 +9,8 @@ mod pairs;
 mod rays;
 mod search;
 
+pub use pairs::gives_spot;
+
 // Up to six rays of one hop length.
 #[repr(C)]
 pub struct HopModes {

@@ -1,7 +1,7 @@
 // Translated from hfcast-engine (commit bf34e8f9f3), src/voacap/modes.rs lines 934 to 986 and 996 to 1005, and changed.
 ghost use mathlib.Core.Path.{_≡_};
 ghost use Prim.Native.Nat.{_<_};
-ghost use Rattle.fdist.specs.Pairs.{betweenOf, risingOf, equalOf, fallingOf, pairOf, nextOf};
+ghost use Rattle.fdist.specs.Pairs.{betweenOf, risingOf, equalOf, fallingOf, pairOf, nextOf, isSpot};
 ghost use Rattle.fdist.specs.Requires.{Within};
 
 // What the rule gives of rows i and i + 1: nothing, a row as it is, or a spot between with its two distances dth and dth2.
@@ -92,5 +92,17 @@ pub(crate) fn next_pair(i: usize, pair: Pair) -> usize
         Pair::Nothing => i + 1,
         Pair::Row(k) => k + 1,
         Pair::Spot(_, _) => i + 1,
+    }
+}
+
+// Whether rows whose hop lengths are g1 and g2 give a spot between them: for those who show a ray. Which rows they are has no bearing on it.
+pub fn gives_spot(g1: f32, g2: f32, d: f32) -> bool
+    ensures { λ r. ⌜ r ≡ isSpot (pairOf 0 g1 g2 d) ⌝ }
+{
+    let pair = try_pair(0, g1, g2, d);
+    match pair {
+        Pair::Nothing => false,
+        Pair::Row(_) => false,
+        Pair::Spot(_, _) => true,
     }
 }

@@ -168,12 +168,19 @@ fn last(answer: &[u8], out: &mut [u8], at: usize) -> usize
         out,
         at,
     );
-    column(
+    let b = column(
         answer,
         layout::IMODE,
         b"@Aw4  imode @Bw2   @Cw;         @Cx0\n",
         out,
         a,
+    );
+    column(
+        answer,
+        layout::KIND,
+        b"@Aw4  kind @Bw2    @Cw;         @Cx0\n",
+        out,
+        b,
     )
 }
 

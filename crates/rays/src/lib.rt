@@ -195,7 +195,7 @@ fn listed(job: &[u8], answer: &[u8], s: usize, out: &mut [u8], at: usize) -> usi
     if !order::is_ray(job, answer, s) {
         return at;
     }
-    let y = 3000 + 240 * (view::rays_before(job, answer, s) as u32);
+    let y = 3220 + 240 * (view::rays_before(job, answer, s) as u32);
     let v = [
         y,
         y + 40,

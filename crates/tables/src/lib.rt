@@ -52,14 +52,24 @@ fn slot(job: &[u8], answer: &[u8], s: usize, out: &mut [u8], at: usize) -> usize
     let a = filled(b"  @Aw1   ", &v, out, at);
     let State::Empty = state else {
         let b = letters(word(answer, layout::ITMOD + s), out, a);
-        return angle(&v, view::is_ray(state), out, b);
+        let across = crossing::across_cusp(job, answer, s);
+        return angle(&v, view::is_ray(state), across, out, b);
     };
     text(out, a, b"empty\n")
 }
 
-fn angle(v: &[u32; 7], ray: usize, out: &mut [u8], at: usize) -> usize
+// What follows the layer. A ray across a cusp is marked: its angle lies on no row.
+fn angle(v: &[u32; 7], ray: usize, across: bool, out: &mut [u8], at: usize) -> usize
     ensures { λ r. ⌜ r ≤ length (now (out .entry)) ⌝ }
 {
+    if across {
+        return filled(
+            b"     @B39 across a cusp @C16 @D19  @E39  @F2:\n",
+            v,
+            out,
+            at,
+        );
+    }
     if ray == 1 {
         return filled(b"     @B39            @C19 @D19  @E39  @F2:\n", v, out, at);
     }

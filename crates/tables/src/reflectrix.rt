@@ -2,10 +2,12 @@
 ghost use mathlib.Core.Path.{_≡_};
 ghost use Prim.Native.Nat.{_<_, _≤_};
 ghost use lib.ListN.{length};
+ghost use Rattle.tables.specs.Letters.{letterOf};
 use crate::letters;
 use decimal::filled;
 use decimal::text;
 use job::layout;
+use view::RowKind;
 use view::above;
 use view::at_least;
 use view::word;
@@ -39,15 +41,38 @@ fn row_values(answer: &[u8], r: usize) -> [u32; 7]
     ]
 }
 
-// Row r, counted from 0. Behind the layer five columns are free.
+// How a row was made.
+fn kind_letter(k: RowKind) -> u8
+    ensures { λ r. ⌜ r ≡ letterOf k ⌝ }
+{
+    match k {
+        RowKind::Unwritten => b'?',
+        RowKind::Table => b't',
+        RowKind::Between => b'b',
+        RowKind::Cusp => b'c',
+        RowKind::AfterCusp => b'a',
+    }
+}
+
+// Row r's layer and the letter of its kind.
+fn layer_and_kind(answer: &[u8], r: usize, out: &mut [u8], at: usize) -> usize
+    requires { ⌜ r < 45 ⌝ }
+    ensures { λ to. ⌜ to ≤ length (now (out .entry)) ⌝ }
+{
+    let a = letters(word(answer, layout::IMODE + r), out, at);
+    let b = decimal::put(out, a, b' ');
+    decimal::put(out, b, kind_letter(view::row_kind(answer, r)))
+}
+
+// Row r, counted from 0.
 fn row(job: &[u8], answer: &[u8], r: usize, out: &mut [u8], at: usize) -> usize
     requires { ⌜ r < 45 ⌝ }
     ensures { λ to. ⌜ to ≤ length (now (out .entry)) ⌝ }
 {
     let v = row_values(answer, r);
     let a = filled(b"  @Aw2  ", &v, out, at);
-    let b = letters(word(answer, layout::IMODE + r), out, a);
-    let c = filled(b"     @B39   @C18 ", &v, out, b);
+    let b = layer_and_kind(answer, r, out, a);
+    let c = filled(b"   @B39   @C18 ", &v, out, b);
     let d = decimal::put(out, c, mark(v[2], view::asked(job)));
     filled(b"@D18 @E19  @F39  @G2:\n", &v, out, d)
 }
@@ -105,6 +130,6 @@ pub fn rows(job: &[u8], answer: &[u8], out: &mut [u8], at: usize) -> usize
     text(
         out,
         c,
-        b"      hop: < shorter than the asked one, > longer, = the same, ? not a number\n\n",
+        b"      hop: < shorter than the asked one, > longer, = the same, ? not a number\n      row: t from the table, b between two entries, c cusp, a after a cusp\n\n",
     )
 }

@@ -11,6 +11,7 @@ use command::is;
 use command::twice;
 use command::word;
 use decimal::inside;
+use job::layout;
 
 pub(crate) fn ask(line: &[u8], n: usize, out: i32, err: i32) -> u32
     ensures { λ r. ⌜ isStatus r ≡ true ⌝ }
@@ -124,7 +125,7 @@ fn written(name: &[u8], job: &[u8], file: &[u8], out: i32, err: i32) -> u32
     ensures { λ r. ⌜ endsAs (refusalOf (now (job .entry)) answerBytes) r ≡ true ⌝ }
     ensures { λ r. ⌜ isStatus r ≡ true ⌝ }
 {
-    let mut answer = [0u8; 1460];
+    let mut answer = [0u8; layout::ANSWER_BYTES];
     let number = page::numbered(job, &mut answer);
     if number != 0 {
         return jobs::refused(name, job, number, false, out, err);

@@ -9,6 +9,7 @@ use command::is;
 use command::word;
 use decimal::inside;
 use decimal::text;
+use job::layout;
 
 // A command with JOB alone.
 pub(crate) fn one(line: &[u8], n: usize, verb: Verb, usage: &[u8], out: i32, err: i32) -> u32
@@ -70,7 +71,7 @@ fn answered(
     ensures { λ r. ⌜ endsAs (refusalOf (now (job .entry)) answerBytes) r ≡ true ⌝ }
     ensures { λ r. ⌜ isStatus r ≡ true ⌝ }
 {
-    let mut answer = [0u8; 1460];
+    let mut answer = [0u8; layout::ANSWER_BYTES];
     let number = page::numbered(job, &mut answer);
     if number != 0 {
         return refused(name, job, number, is_check(verb), out, err);

@@ -8,7 +8,9 @@ use lib.Ieee.{Float, binary32, toBits, le}
 use Rattle.arith.specs.Floats.{_⊗_, f32, RZ}
 use Rattle.job.specs.Layout.{placeOf, word}
 use Rattle.job.specs.Parts.{pointNumbers, sharedLayout, jobLayout}
-use Rattle.job.specs.Answer.{slots, answerLayout}
+use Rattle.job.specs.Answer.{columnRows, slots, answerLayout}
+use Rattle.view.specs.declared.RowKind.{RowKind}
+use Rattle.view.specs.declared.RowKind.the-variants.{Unwritten, Table, Between, Cusp, AfterCusp}
 use Rattle.view.specs.declared.State.{State}
 use Rattle.view.specs.declared.State.the-variants.{Empty, Ray, TooLow}
 
@@ -49,3 +51,25 @@ isRay TooLow = 0
 unfoldable pub raysBefore : List ℕ → List ℕ → ℕ → ℕ
 raysBefore job answer zero = 0
 raysBefore job answer (suc n) = raysBefore job answer n + isRay (slotOf job answer n)
+
+-- order 2: "1 exact or filled because the lowest entry passes, 2 interpolated, 3 cusp, 4 the row after a cusp"; "Rows not written in this call have 0"
+unfoldable pub rowKindBy : ℕ → RowKind
+rowKindBy n = cond (eqb n 1) Table (cond (eqb n 2) Between (cond (eqb n 3) Cusp (cond (eqb n 4) AfterCusp Unwritten)))
+
+-- the kind of row r, counted from 0
+unfoldable pub rowKindOf : List ℕ → ℕ → RowKind
+rowKindOf answer r = cond (ltb r columnRows) (rowKindBy (word answer (ofAnswer "kind" + r))) Unwritten
+
+abbrev pub isCusp : RowKind → Bool
+isCusp Unwritten = false
+isCusp Table = false
+isCusp Between = false
+isCusp Cusp = true
+isCusp AfterCusp = false
+
+abbrev pub isAfterCusp : RowKind → Bool
+isAfterCusp Unwritten = false
+isAfterCusp Table = false
+isAfterCusp Between = false
+isAfterCusp Cusp = false
+isAfterCusp AfterCusp = true

@@ -5,7 +5,7 @@ ghost use lib.Ieee.{lt, le};
 ghost use Rattle.arith.specs.Floats.{f32};
 ghost use Rattle.job.specs.Layout as meant;
 ghost use Rattle.job.specs.Answer.{slots};
-ghost use Rattle.view.specs.View.{askedOf, criticalOf, slotOf, isEmpty, isRay, raysBefore};
+ghost use Rattle.view.specs.View.{askedOf, criticalOf, slotOf, isEmpty, isRay, raysBefore, rowKindBy, rowKindOf, isCusp, isAfterCusp};
 use job::layout;
 
 // Words of the job that its points share, counted from the job's first.
@@ -24,6 +24,15 @@ pub enum State {
     Empty,
     Ray,
     TooLow,
+}
+
+// How a row of the reflectrix was made.
+pub enum RowKind {
+    Unwritten,
+    Table,
+    Between,
+    Cusp,
+    AfterCusp,
 }
 
 // Word i; past the end 0.
@@ -127,4 +136,56 @@ pub fn rays_before(job: &[u8], answer: &[u8], n: usize) -> usize
         s += 1;
     }
     k
+}
+
+fn kind_by(n: u32) -> RowKind
+    ensures { λ r. ⌜ r ≡ rowKindBy n ⌝ }
+{
+    if n == findf::KIND_EXACT {
+        return RowKind::Table;
+    }
+    if n == findf::KIND_INTERP {
+        return RowKind::Between;
+    }
+    if n == findf::KIND_CUSP {
+        return RowKind::Cusp;
+    }
+    if n == findf::KIND_NEXT_CUSP {
+        return RowKind::AfterCusp;
+    }
+    RowKind::Unwritten
+}
+
+// The kind of row r, counted from 0.
+pub fn row_kind(answer: &[u8], r: usize) -> RowKind
+    ensures { λ k. ⌜ k ≡ rowKindOf (now (answer .entry)) r ⌝ }
+{
+    if r < layout::COLUMN_ROWS {
+        return kind_by(word(answer, layout::KIND + r));
+    }
+    RowKind::Unwritten
+}
+
+pub fn is_cusp(k: RowKind) -> bool
+    ensures { λ r. ⌜ r ≡ isCusp k ⌝ }
+{
+    match k {
+        RowKind::Unwritten => false,
+        RowKind::Table => false,
+        RowKind::Between => false,
+        RowKind::Cusp => true,
+        RowKind::AfterCusp => false,
+    }
+}
+
+pub fn is_after_cusp(k: RowKind) -> bool
+    ensures { λ r. ⌜ r ≡ isAfterCusp k ⌝ }
+{
+    match k {
+        RowKind::Unwritten => false,
+        RowKind::Table => false,
+        RowKind::Between => false,
+        RowKind::Cusp => false,
+        RowKind::AfterCusp => true,
+    }
 }
