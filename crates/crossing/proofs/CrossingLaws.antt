@@ -1,12 +1,11 @@
 -- For `numbered` and `across_cusp`: what the search is given, and the slots. Assumes nothing.
-use mathlib.Core.Path.{_≡_, sym, ap, _∙_}
-use mathlib.Core.Bool.{Bool, true, false}
+use mathlib.Core.Path.{_≡_}
+use mathlib.Core.Bool.{Bool, false}
 use mathlib.Core.List.{List}
 use Prim.Native.Nat.{ℕ, _≤_}
 use lib.Ieee.{Float}
 use borrow.Author.Tests.{eq-eqb, ne-eqb}
 use Rattle.fdist.specs.declared.HopModes.{HopModes}
-use Rattle.fdist.specs.declared.Searched.{Searched}
 use Rattle.fdist.specs.Fdist.{rowsBy, fdistBy}
 use Rattle.job.specs.Parts.{numberAt, numbersAt}
 use Rattle.job.specs.Answer.{columnRows}

@@ -44,9 +44,9 @@ module _ (p : Parts) (ok : broken (limitsOf p) ≡ 0) where
       let beyond = findf.kind-beyond allZero (p .walk) walks in
       record {
         kind-written = λ i h.
-          let f = kinds.filled-by allZero (p .walk) walks i h in
-          let k = kinds.kind-follows allZero (p .walk) walks zero-sized i h in
-          record { after = f .after; writes = k .0; row-is = f .row-is; kind-is = k .1 };
+            let f = kinds.filled-by allZero (p .walk) walks i h in
+            let k = kinds.kind-follows allZero (p .walk) walks zero-sized i h in
+            record { after = f .after; writes = k .0; row-is = f .row-is; kind-is = k .1 };
         kind-range = range;
         after-cusp = λ i h k. let a = kinds.answer-after-cusp allZero (p .walk) walks zero-sized i h k in (a .later, (a .cusp-before, a .angle-on));
         kind-beyond = beyond;
@@ -74,10 +74,10 @@ carry p {rows} {rows′} {kind} {kind′} {angle} {angle′} few er ek ea was =
       kind-written = λ i h. subst (WrittenAs p i) (sym (ek i (in45 i h))) (was .kind-written i (row i h));
       kind-range = range;
       after-cusp = λ i h k.
-        let l = in45 i h in
-        let a = was .after-cusp i (row i h) (sym (ek i l) ∙ k) in
-        let m : i - 1 < 45 = omega arith in
-        (a .0, (ek (i - 1) m ∙ a .1 .0, ea i l ∙ a .1 .1 ∙ ap (λ (x : Float). x ⊕ 0·001) (sym (ea (i - 1) m))));
+          let l = in45 i h in
+          let a = was .after-cusp i (row i h) (sym (ek i l) ∙ k) in
+          let m : i - 1 < 45 = omega arith in
+          (a .0, (ek (i - 1) m ∙ a .1 .0, ea i l ∙ a .1 .1 ∙ ap (λ (x : Float). x ⊕ 0·001) (sym (ea (i - 1) m))));
       kind-beyond = beyond;
       kind-count = counted rows′ kind′ (omega (arith, er)) (λ i h. range i h .0) beyond;
     }

@@ -5,4 +5,5 @@ pub mod SearchLaws
 pub mod StraddleLaws
 pub mod DemandLaws
 pub mod FitLaws
+pub mod LayerLaws
 mod Checks

@@ -1,6 +1,6 @@
 use borrow.Author.Needs.{needs}
-use mathlib.Core.Path.{_≡_, refl}
-use Prim.Native.Nat.{ℕ, _+_, _-_}
+use mathlib.Core.Path.{refl}
+use Prim.Native.Nat.{_+_, _-_}
 use native.Mathlib.Omega.{arith}
 use Rattle.words.proofs.ListLaws.{Filled, fill-none, fill-more, fill-all}
 use Rattle.job.specs.Parts.{numberAt}
