@@ -4,9 +4,7 @@ ghost use mathlib.Core.Path.{_≡_};
 ghost use Prim.Native.Nat.{_≤_, _<_};
 ghost use Rattle.job.specs.Parts.{numberAt, numbersAt};
 ghost use Rattle.job.specs.Answer.{columnRows};
-ghost use Rattle.job.specs.Solved.{noSlots};
 ghost use Rattle.crossing.specs.Crossing.{rowNumbers, numberedOf, firstRowOf, spotAt, crossedAt, acrossCusp};
-use fdist::HopModes;
 use fdist::Searched;
 use job::layout;
 
@@ -42,19 +40,6 @@ fn row_numbers() -> [u32; 45]
     out
 }
 
-fn no_slots() -> HopModes
-    ensures { λ r. ⌜ r ≡ noSlots ⌝ }
-{
-    HopModes {
-        delmod: [0.0; 6],
-        hpmod: [0.0; 6],
-        htmod: [0.0; 6],
-        fvmod: [0.0; 6],
-        itmod: [0; 6],
-        afmod: [0.0; 6],
-    }
-}
-
 // The search with the rows' numbers for their layers.
 fn numbered(job: &[u8], answer: &[u8]) -> Searched
     ensures { λ r. ⌜ r ≡ numberedOf (now (job .entry)) (now (answer .entry)) ⌝ }
@@ -67,7 +52,7 @@ fn numbered(job: &[u8], answer: &[u8]) -> Searched
     let afflx = column(answer, layout::AFFLX);
     let numbers = row_numbers();
     fdist::fdist_over(
-        no_slots(),
+        job::no_slots(),
         &delfx,
         &hpflx,
         &htflx,
