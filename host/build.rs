@@ -31,7 +31,7 @@ fn link_libraries() {
         let library = directory.join(format!("lib{name}.a"));
         assert!(
             library.is_file(),
-            "{} is missing: build it with `rt staticlib {name}`, or set RAY_LIB_DIR",
+            "{} is missing: build it with `./staticlib {name}`, or set RAY_LIB_DIR",
             library.display()
         );
         println!("cargo:rerun-if-changed={}", library.display());

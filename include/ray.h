@@ -2,7 +2,7 @@
  * ray.h: the angles at which a shortwave antenna reaches a listener by one hop.
  *
  * For C99 and C++, on x86-64 (the library is for no other processor). Link libraycore.a, which asks
- * for memcpy alone. docs/JOB.md says more of the bytes; examples/rays.c is a whole program.
+ * for memcpy and memset alone. docs/JOB.md says more of the bytes; examples/rays.c is a whole program.
  *
  * What the caller must guarantee, for every call:
  *  - Buffers. job and answer are memory of the given lengths, do not overlap, and nobody else writes

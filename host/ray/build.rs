@@ -13,7 +13,7 @@ fn main() {
     let library = directory.join("libraycore.a");
     assert!(
         library.is_file(),
-        "{} is missing: build it with `rt staticlib raycore`, or set RAY_LIB_DIR",
+        "{} is missing: build it with `./staticlib raycore`, or set RAY_LIB_DIR",
         library.display()
     );
     println!("cargo:rerun-if-changed={}", library.display());

@@ -10,9 +10,9 @@ pub const STEP: u128 = 1 << 10;
 /// The half-width that is promised of the arcs. Its one place is Width.antt, in steps.
 pub fn half_width() -> u128 {
     let text = include_str!("../../crates/angles/specs/Width.antt");
-    let steps = text.lines().find_map(|line| line.strip_prefix("halfWidth = "));
+    let steps = text.lines().find_map(|line| line.strip_prefix("half_width = "));
     let steps = steps.and_then(|steps| steps.trim().parse::<u128>().ok());
-    steps.expect("Width.antt has a line `halfWidth = N`") * STEP
+    steps.expect("Width.antt has a line `half_width = N`") * STEP
 }
 
 /// A finite x as n / 2^k.

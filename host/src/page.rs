@@ -42,14 +42,14 @@ fn h(v: u128, c: &[u128]) -> u128 {
     c.iter().rev().fold(0, |h, c_j| c_j + mh(v, h))
 }
 
-/// sinPlus and sinMinus at n.
+/// sin_plus and sin_minus at n.
 fn sin_parts(n: u128) -> (u128, u128) {
     let z = mh(n, n);
     let v = 8 * mh(z, z);
     (mh(n, h(v, &SIN_PLUS)), mh(4 * mh(n, z), h(v, &SIN_MINUS)))
 }
 
-/// cosPlus and cosMinus at n.
+/// cos_plus and cos_minus at n.
 fn cos_parts(n: u128) -> (u128, u128) {
     let z = mh(n, n);
     let v = 8 * mh(z, z);

@@ -1083,7 +1083,7 @@ fn the_script_says_what_it_lacks() {
     folder.put("crates.txt", b"tool_entry:\n");
     let bin = folder.file("bin");
     fs::create_dir(&bin).unwrap();
-    for name in ["awk", "bash", "cat", "dirname", "find", "mkdir", "mv", "readlink", "sed", "wc"] {
+    for name in ["awk", "bash", "cat", "cp", "dirname", "find", "mkdir", "mv", "readlink", "sed", "wc"] {
         let found =
             Command::new("sh").args(["-c", &format!("command -v {name}")]).output().unwrap();
         let found = String::from_utf8(found.stdout).unwrap();
@@ -1101,26 +1101,28 @@ fn the_script_says_what_it_lacks() {
         fs::write(bin.join(name), text).unwrap();
         fs::set_permissions(bin.join(name), fs::Permissions::from_mode(0o755)).unwrap();
     };
+    for name in ["arith", "words", "tool_entry"] {
+        fs::create_dir_all(folder.file(&format!("crates/{name}"))).unwrap();
+    }
     fake("rt", "#!/bin/sh\necho 'rt: FAILED: tool'\nexit 1\n");
     let ran = run();
-    assert_eq!((ran.status, ran.out.len()), (69, 0));
-    assert!(ran.err.contains("'cc', is not found"), "{}", ran.err);
-    fake("cc", "#!/bin/sh\nexit 1\n");
-    let ran = run();
     assert_eq!((ran.status, ran.out.len()), (70, 0));
-    assert!(ran.err.contains("the build failed"), "{}", ran.err);
-    // A stand-in that proves two crates, of which one is unchanged, and a tool that prints its words.
+    assert!(ran.err.contains("the build failed at tool_entry"), "{}", ran.err);
+    // A stand-in that proves two crates, of which one takes no time, and a tool that prints its words.
     folder.put("crates.txt", b"arith:\nwords:\ntool_entry: arith words\n");
-    let proved = "rt: arith proved (3 s)\nrt: words proved (unchanged since it was last proved)\n\
-                  rt: tool_entry proved (12 s)\nrt: target/staticlib/libtool_entry.a has it; link os beside it";
-    fake("rt", &format!("#!/bin/sh\necho '{proved}'\n"));
     fake(
-        "cc",
-        "#!/bin/bash\n{ echo '#!/bin/bash'; echo 'echo \"$@\"'; } >\"$3\"\n/bin/chmod +x \"$3\"\n",
+        "rt",
+        "#!/bin/bash\n\
+         [ \"${PWD##*/}\" = words ] || /bin/sleep 4\n\
+         [ \"$1\" = run ] || exit 0\n\
+         mkdir -p out && { echo '#!/bin/bash'; echo 'echo \"$@\"'; } >out/tool_entry\n\
+         /bin/chmod +x out/tool_entry\n",
     );
     let ran = run();
     assert_eq!(ran.status, 0, "{}", ran.err);
     assert_eq!(ran.text(), format!("show {}\n", folder.file("jobs/noon.job").display()));
-    let lines = "ray: 1 of 3: arith proved (3 s)\nray: 3 of 3: tool_entry proved (12 s)\n";
-    assert!(ran.err.contains(lines), "{}", ran.err);
+    for line in ["ray: 1 of 3: arith proved (", "ray: 3 of 3: tool_entry proved ("] {
+        assert!(ran.err.contains(line), "{}", ran.err);
+    }
+    assert!(!ran.err.contains("words proved"), "{}", ran.err);
 }

@@ -1,4 +1,6 @@
 // Translated from hfcast-engine (commit bf34e8f9f3), src/voacap/modes.rs lines 209 to 345, and changed.
+#![tactic(auto)]
+
 ghost use Rattle.std.specs.Prelude.{◌≡◌, ◌+◌, ◌-◌, ◌<◌, ◌≤◌, get_or, length, set, pos};
 ghost use mathlib.Core.List.{foldl};
 ghost use Rattle.allmodes.specs.AllModes.{reset_of, accumulate_of, add_slot, held};
@@ -34,7 +36,7 @@ pub struct Zon {
 
 // The accumulated mode list of one frequency, 20 slots.
 #[repr(C)]
-#[derive(Drop)]
+#[derive(Clone, Copy)]
 pub struct AllModes {
     pub abps: [f32; 20],
     pub crel: [f32; 20],

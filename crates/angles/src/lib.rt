@@ -1,4 +1,6 @@
 // Sine, cosine, arcsine, arccosine and arctangent of an f32, each equal to one exact recipe over scaled whole numbers (docs/ANGLES.md).
+#![tactic(auto)]
+
 mod arccosine;
 mod arcsine;
 mod arctangent;

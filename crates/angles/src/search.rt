@@ -14,7 +14,7 @@ use super::series::{Parts, cos_parts, high_product, short_sin_parts, sin_parts};
 const HALF_STEP: u64 = 274877906944;
 
 // Which arc: that of the sine, of the cosine at an argument not below 0 (false) or below it (true), or of the tangent.
-#[derive(Drop)]
+#[derive(Clone, Copy)]
 pub(crate) enum Arc {
     Sine,
     Cosine(bool),
@@ -22,7 +22,7 @@ pub(crate) enum Arc {
 }
 
 // The two sides of a test at one step: it holds where low <= high.
-#[derive(Drop)]
+#[derive(Clone, Copy)]
 pub(crate) struct Sides {
     pub(crate) low: u64,
     pub(crate) high: u64,

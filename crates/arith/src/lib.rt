@@ -1,4 +1,6 @@
 // The constants of the source, and the methods of Rust's f32 that it uses, written out.
+#![tactic(auto)]
+
 ghost use Rattle.std.specs.Prelude.{◌≡◌};
 ghost use Rattle.arith.specs.Floats.{abs_of, min_of, max_of};
 
@@ -28,6 +30,7 @@ pub fn abs(x: f32) -> f32
 }
 
 // a.min(b)
+#[tactic(auto, unfolding(crate::specs::Floats::min_of))]
 pub fn min(a: f32, b: f32) -> f32
     ensures { result ≡ min_of a b }
 {
@@ -41,6 +44,7 @@ pub fn min(a: f32, b: f32) -> f32
 }
 
 // a.max(b)
+#[tactic(auto, unfolding(crate::specs::Floats::max_of))]
 pub fn max(a: f32, b: f32) -> f32
     ensures { result ≡ max_of a b }
 {

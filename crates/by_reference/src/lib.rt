@@ -1,4 +1,6 @@
 // findf and fdist as the Rust has them, over a reflectrix and slots that the caller lends. A refusal leaves what was lent as it was.
+#![tactic(auto)]
+
 ghost use Rattle.std.specs.Prelude.{◌≡◌};
 ghost use Rattle.findf.specs.Inputs.{job_by};
 ghost use Rattle.findf.specs.Findf.{findf_of};

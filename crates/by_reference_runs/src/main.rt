@@ -1,8 +1,11 @@
 // Runs findf and fdist over a reflectrix and slots that are lent, and were used before: one accepted call and one refused call of each.
+#![tactic(auto)]
+
 mod say;
 
 use fdist::{HopModes, Searched};
 use findf::{Reflectrix, Walked};
+use std::io;
 
 // No number is 0. The first hop lengths lie below the asked one, at it, above it and below it again.
 fn used_reflectrix() -> Reflectrix {
@@ -45,7 +48,7 @@ fn used_slots() -> HopModes {
     }
 }
 
-fn reflectrix(r: Reflectrix) {
+fn reflectrix(rt: &impl Print, r: Reflectrix) -> io::Result<()> {
     let delfx = r.delfx;
     let hpflx = r.hpflx;
     let htflx = r.htflx;
@@ -55,56 +58,56 @@ fn reflectrix(r: Reflectrix) {
     let imode = r.imode;
     let kind = r.kind;
     let delpen = r.delpen;
-    say::column(b"delfx", delfx);
-    say::column(b"hpflx", hpflx);
-    say::column(b"htflx", htflx);
-    say::column(b"gdflx", gdflx);
-    say::column(b"fvflx", fvflx);
-    say::column(b"afflx", afflx);
-    say::layers(b"imode", imode);
-    say::layers(b"kind", kind);
-    say::float(b"dskpkm", r.dskpkm);
-    say::float(b"delskp", r.delskp);
-    say::float(b"hpskp", r.hpskp);
-    say::float(b"htskp", r.htskp);
-    say::float(b"dmaxkm", r.dmaxkm);
-    say::float(b"fvskp", r.fvskp);
-    say::number(b"iskp", r.iskp);
-    say::three(b"delpen", delpen);
-    say::count(b"iaftxr", r.iaftxr);
-    say::count(b"rows_this_call", r.rows_this_call);
+    say::column(rt, "delfx", delfx)?;
+    say::column(rt, "hpflx", hpflx)?;
+    say::column(rt, "htflx", htflx)?;
+    say::column(rt, "gdflx", gdflx)?;
+    say::column(rt, "fvflx", fvflx)?;
+    say::column(rt, "afflx", afflx)?;
+    say::layers(rt, "imode", imode)?;
+    say::layers(rt, "kind", kind)?;
+    say::float(rt, "dskpkm", r.dskpkm)?;
+    say::float(rt, "delskp", r.delskp)?;
+    say::float(rt, "hpskp", r.hpskp)?;
+    say::float(rt, "htskp", r.htskp)?;
+    say::float(rt, "dmaxkm", r.dmaxkm)?;
+    say::float(rt, "fvskp", r.fvskp)?;
+    say::number(rt, "iskp", r.iskp)?;
+    say::three(rt, "delpen", delpen)?;
+    say::count(rt, "iaftxr", r.iaftxr)?;
+    say::count(rt, "rows_this_call", r.rows_this_call)
 }
 
-fn slots(m: HopModes) {
+fn slots(rt: &impl Print, m: HopModes) -> io::Result<()> {
     let delmod = m.delmod;
     let hpmod = m.hpmod;
     let htmod = m.htmod;
     let fvmod = m.fvmod;
     let itmod = m.itmod;
     let afmod = m.afmod;
-    say::six(b"delmod", delmod);
-    say::six(b"hpmod", hpmod);
-    say::six(b"htmod", htmod);
-    say::six(b"fvmod", fvmod);
-    say::six_layers(b"itmod", itmod);
-    say::six(b"afmod", afmod);
+    say::six(rt, "delmod", delmod)?;
+    say::six(rt, "hpmod", hpmod)?;
+    say::six(rt, "htmod", htmod)?;
+    say::six(rt, "fvmod", fvmod)?;
+    say::six_layers(rt, "itmod", itmod)?;
+    say::six(rt, "afmod", afmod)
 }
 
-fn walked(title: &[u8], w: Walked) {
-    say::text(title);
-    say::number(b"refusal", w.refusal);
-    say::number(b"looks", w.looks);
+fn walked(rt: &impl Print, title: &str, w: Walked) -> io::Result<()> {
+    say::text(rt, title)?;
+    say::number(rt, "refusal", w.refusal)?;
+    say::number(rt, "looks", w.looks)?;
     let rfx = w.rfx;
-    reflectrix(rfx);
+    reflectrix(rt, rfx)
 }
 
-fn searched(title: &[u8], s: Searched) {
-    say::text(title);
-    say::number(b"refusal", s.refusal);
-    say::number(b"pairs", s.pairs);
-    say::number(b"rays", s.rays);
+fn searched(rt: &impl Print, title: &str, s: Searched) -> io::Result<()> {
+    say::text(rt, title)?;
+    say::number(rt, "refusal", s.refusal)?;
+    say::number(rt, "pairs", s.pairs)?;
+    say::number(rt, "rays", s.rays)?;
     let m = s.m;
-    slots(m);
+    slots(rt, m)
 }
 
 // A walk over layers E and F2 at 5 MHz, of nang angles.
@@ -130,9 +133,9 @@ fn search(ghop: f32) -> Searched {
     by_reference::lending::fdist(used_slots(), used_reflectrix(), ghop, 3.0, 5.0)
 }
 
-fn main() {
-    walked(b"findf, nang 30\n", walk(30));
-    walked(b"findf, nang 41\n", walk(41));
-    searched(b"fdist, ghop 0.5\n", search(0.5));
-    searched(b"fdist, ghop 5\n", search(5.0));
+fn main(rt: HostRuntime) -> io::Result<()> {
+    walked(&rt, "findf, nang 30\n", walk(30))?;
+    walked(&rt, "findf, nang 41\n", walk(41))?;
+    searched(&rt, "fdist, ghop 0.5\n", search(0.5))?;
+    searched(&rt, "fdist, ghop 5\n", search(5.0))
 }

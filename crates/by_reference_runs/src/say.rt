@@ -1,80 +1,72 @@
 // What is printed: a name and its words, floats by their bits in hexadecimal.
-use libc::STDOUT_FILENO;
+use std::io;
 
-pub(crate) fn text(t: &[u8]) {
-    io::write_all(STDOUT_FILENO, t);
+pub(crate) fn text(rt: &impl Print, t: &str) -> io::Result<()> {
+    print!(rt; "{t}")
 }
 
-fn name(n: &[u8]) {
-    text(b"  ");
-    text(n);
+fn name(rt: &impl Print, n: &str) -> io::Result<()> {
+    print!(rt; "  {n}")
 }
 
-fn word(x: f32) {
-    text(b" ");
-    io::print_hex(STDOUT_FILENO, words::bits(x) as u64, 8);
+fn word(rt: &impl Print, x: f32) -> io::Result<()> {
+    print!(rt; " {:08x}", words::bits(x))
 }
 
-fn decimal(n: u32) {
-    text(b" ");
-    io::print_decimal(STDOUT_FILENO, n as u64);
+fn decimal(rt: &impl Print, n: u32) -> io::Result<()> {
+    print!(rt; " {n}")
 }
 
-pub(crate) fn float(n: &[u8], x: f32) {
-    name(n);
-    word(x);
-    text(b"\n");
+pub(crate) fn float(rt: &impl Print, n: &str, x: f32) -> io::Result<()> {
+    name(rt, n)?;
+    word(rt, x)?;
+    text(rt, "\n")
 }
 
-pub(crate) fn number(n: &[u8], x: u32) {
-    name(n);
-    decimal(x);
-    text(b"\n");
+pub(crate) fn number(rt: &impl Print, n: &str, x: u32) -> io::Result<()> {
+    name(rt, n)?;
+    decimal(rt, x)?;
+    text(rt, "\n")
 }
 
-pub(crate) fn count(n: &[u8], x: usize) {
-    name(n);
-    text(b" ");
-    io::print_decimal(STDOUT_FILENO, x as u64);
-    text(b"\n");
+pub(crate) fn count(rt: &impl Print, n: &str, x: usize) -> io::Result<()> {
+    name(rt, n)?;
+    print!(rt; " {x}")?;
+    text(rt, "\n")
 }
 
-fn floats(n: &[u8], xs: &[f32]) {
-    name(n);
-    let mut i = 0usize;
-    while i < xs.len() {
-        word(xs[i]);
-        i += 1;
+fn floats(rt: &impl Print, n: &str, xs: &[f32]) -> io::Result<()> {
+    name(rt, n)?;
+    for x in xs {
+        word(rt, *x)?;
     }
-    text(b"\n");
+    text(rt, "\n")
 }
 
-fn numbers(n: &[u8], xs: &[u32]) {
-    name(n);
-    let mut i = 0usize;
-    while i < xs.len() {
-        decimal(xs[i]);
-        i += 1;
+fn numbers(rt: &impl Print, n: &str, xs: &[u32]) -> io::Result<()> {
+    name(rt, n)?;
+    for x in xs {
+        decimal(rt, *x)?;
     }
-    text(b"\n");
+    text(rt, "\n")
 }
 
-pub(crate) fn column(n: &[u8], xs: [f32; 45]) {
-    floats(n, &xs);
+pub(crate) fn column(rt: &impl Print, n: &str, xs: [f32; 45]) -> io::Result<()> {
+    floats(rt, n, &xs)
 }
 
-pub(crate) fn layers(n: &[u8], xs: [u32; 45]) {
-    numbers(n, &xs);
+pub(crate) fn layers(rt: &impl Print, n: &str, xs: [u32; 45]) -> io::Result<()> {
+    numbers(rt, n, &xs)
 }
 
-pub(crate) fn three(n: &[u8], xs: [f32; 3]) {
-    floats(n, &xs);
+pub(crate) fn three(rt: &impl Print, n: &str, xs: [f32; 3]) -> io::Result<()> {
+    floats(rt, n, &xs)
 }
 
-pub(crate) fn six(n: &[u8], xs: [f32; 6]) {
-    floats(n, &xs);
+pub(crate) fn six(rt: &impl Print, n: &str, xs: [f32; 6]) -> io::Result<()> {
+    floats(rt, n, &xs)
 }
 
-pub(crate) fn six_layers(n: &[u8], xs: [u32; 6]) {
-    numbers(n, &xs);
+pub(crate) fn six_layers(rt: &impl Print, n: &str, xs: [u32; 6]) -> io::Result<()> {
+    numbers(rt, n, &xs)
 }

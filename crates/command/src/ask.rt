@@ -8,7 +8,7 @@ use job::layout;
 use parse::Number;
 
 // The bits that are put at a byte of the job; or what is wrong with the pair.
-#[derive(Drop)]
+#[derive(Clone, Copy)]
 pub enum Pair {
     Put(usize, u32),
     NoName,

@@ -1,4 +1,6 @@
 // The command line, as one text: words, each with a byte 0 behind it.
+#![tactic(auto)]
+
 mod ask;
 mod line;
 

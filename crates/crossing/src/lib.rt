@@ -1,5 +1,7 @@
 // Whether the ray of a slot lies across a cusp: between the cusp row and the row after it.
 // The search copies a row's layer and never reads it. So a search over the same columns with the rows' numbers for their layers leaves, in each slot, the number of the row that its ray begins at.
+#![tactic(auto)]
+
 ghost use Rattle.std.specs.Prelude.{◌≡◌, ◌≤◌, ◌<◌};
 ghost use Rattle.job.specs.Parts.{number_at, numbers_at};
 ghost use Rattle.job.specs.Answer.{column_rows};
@@ -103,6 +105,7 @@ fn crossed(job: &[u8], answer: &[u8], i: usize) -> bool
 }
 
 // Whether slot s, counted from 0, is a ray across a cusp.
+#[tactic(auto, using(crate::proofs::CrossingLaws::ray_crossed, crate::proofs::CrossingLaws::no_ray, crate::proofs::CrossingLaws::past))]
 pub fn across_cusp(job: &[u8], answer: &[u8], s: usize) -> bool
     ensures { result ≡ across_cusp job.now answer.now s }
 {

@@ -1,4 +1,6 @@
 // The rows of a reflectrix as a drawn curve, in SVG: a line for each layer, a dashed one where the layer changes, a mark for each row.
+#![tactic(auto)]
+
 ghost use Rattle.std.specs.Prelude.{◌≤◌, ◌<◌, length};
 
 use decimal::{filled, text};
@@ -155,7 +157,7 @@ fn row_mark(answer: &[u8], r: usize, across: u32, up: u32, out: &mut [u8], at: u
 }
 
 // What is drawn of a row: its part of the layer's line, the jump to it, its mark.
-#[derive(Drop)]
+#[derive(Clone, Copy)]
 enum Piece {
     Line,
     Jump,

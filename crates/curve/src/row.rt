@@ -139,7 +139,7 @@ pub fn highest(answer: &[u8]) -> u32
 }
 
 // What rows are counted by.
-#[derive(Drop)]
+#[derive(Clone, Copy)]
 pub enum Kind {
     OfLayer(u32),
     NoLength,

@@ -1,4 +1,6 @@
 // Texts and numbers into a lent slice of bytes. What does not fit is dropped; each function returns where its text ends.
+#![tactic(auto)]
+
 mod template;
 
 ghost use Rattle.std.specs.Prelude.{◌≡◌, cond, [], ◌∷◌, ◌-◌, ◌<◌, ◌≤◌, ◌+◌, ◌^◌, min, length, take, replicate};

@@ -1,4 +1,6 @@
 // The drawing of a reflectrix, in SVG: hop length across, take-off angle up, the rows, the asked length, the rays.
+#![tactic(auto)]
+
 ghost use Rattle.std.specs.Prelude.{◌≤◌, length};
 
 use decimal::text;

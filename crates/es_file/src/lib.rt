@@ -1,4 +1,6 @@
 // The file of `ray es`: its words, esmod's answer to them, and the first number that is out of its range.
+#![tactic(auto)]
+
 ghost use Rattle.std.specs.Prelude.{◌≡◌, cond, ◌+◌, ◌*◌, ◌<◌, min};
 ghost use Rattle.limits.specs.Limits.{broken};
 ghost use Rattle.limits.proofs.LimitsLaws.{or_else};

@@ -1,4 +1,6 @@
 // What `ray es` prints of its file: the page, or the two lines of one that is refused.
+#![tactic(auto)]
+
 mod refused;
 mod sheet;
 

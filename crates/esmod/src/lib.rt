@@ -1,5 +1,7 @@
 // Translated from hfcast-engine (commit bf34e8f9f3), src/voacap/modes.rs lines 1441 to 1561, and changed: the geometry alone, without what makes a loss.
 // The rays of up to two hops by sporadic E.
+#![tactic(auto)]
+
 ghost use Rattle.std.specs.Prelude.{◌≡◌, true, min};
 ghost use Rattle.angles.specs.SinCos.{sin_of};
 ghost use Rattle.limits.specs.Limits.{broken, hs_within, gcdkm_within};
@@ -10,7 +12,7 @@ use limits::Checked;
 
 // A slot: the take-off angle in degrees, the number of hops, the height of the layer in km, the delay in ms. -1 in all four where it is empty.
 #[repr(C)]
-#[derive(Drop)]
+#[derive(Clone, Copy)]
 pub struct EsHop {
     pub b: f32,
     pub hn: f32,

@@ -1,9 +1,9 @@
 -- Every number in the slots is one of f32, and every layer is small, where that holds of the rows. Assumes nothing.
-use Prim.Native.Nat.{ℕ, zero, suc, ◌+◌, ◌≤◌, ◌<◌}
-use mathlib.Core.Path.{◌≡◌, refl, sym, subst, ◌∙◌}
+use Prim.Native.Nat.{ℕ, ◌+◌, ◌≤◌}
+use mathlib.Core.Path.{◌≡◌, subst}
 use mathlib.Core.Bool.{Bool, true, false, cond}
 use native.Mathlib.Omega.{arith}
-use lib.ListN.{get_or, set, replicate}
+use lib.ListN.{get_or, replicate}
 use lib.Ieee.{Float, nan, neg, le}
 use Rattle.arith.specs.Floats.{◌⊗◌, f32, RZ, abs_of}
 use Rattle.arith.specs.Run.{Next}
@@ -16,8 +16,7 @@ use Rattle.fdist.specs.declared.Searched.{Searched}
 use Rattle.fdist.specs.declared.pairs.Pair.{Pair}
 use Rattle.fdist.specs.declared.pairs.Pair.TheVariants.{Nothing, Row, Spot}
 use Rattle.fdist.specs.declared.rays.Ray.{Ray}
-use Rattle.fdist.specs.declared.rays.Given.{Given}
-use Rattle.fdist.specs.declared.rays.Given.TheVariants.{Absent, Present}
+use Rattle.fdist.specs.declared.rays.Given.TheVariants.{Present}
 use Rattle.fdist.specs.Rays.{spot_of, given_of}
 use Rattle.fdist.specs.Fdist.{Rows, rows_of, pair_at, Search, start, empty_of, put_of, none_of, turn_of, turns, run_of, search_by, limits_of, fdist_by, fdist_of}
 use Rattle.fdist.specs.Demand.{ray_of, slot_of}

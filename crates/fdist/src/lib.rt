@@ -1,4 +1,6 @@
 // Translated from hfcast-engine (commit bf34e8f9f3), src/voacap/modes.rs lines 195 to 206 and 909 to 1040, and changed.
+#![tactic(auto)]
+
 ghost use Rattle.std.specs.Prelude.{◌≡◌};
 ghost use Rattle.limits.specs.Limits.{broken, checked_by};
 ghost use Rattle.fdist.specs.Fdist.{rows_by, limits_of, refused_of, fdist_by, fdist_of};
@@ -14,7 +16,7 @@ pub use pairs::gives_spot;
 
 // Up to six rays of one hop length.
 #[repr(C)]
-#[derive(Drop)]
+#[derive(Clone, Copy)]
 pub struct HopModes {
     pub delmod: [f32; 6],
     pub hpmod: [f32; 6],

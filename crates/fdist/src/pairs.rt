@@ -4,7 +4,7 @@ ghost use Rattle.fdist.specs.Pairs.{between_of, rising_of, equal_of, falling_of,
 ghost use Rattle.fdist.specs.Requires.{Within};
 
 // What the rule gives of rows i and i + 1: nothing, a row as it is, or a spot between with its two distances dth and dth2.
-#[derive(Drop)]
+#[derive(Clone, Copy)]
 pub(crate) enum Pair {
     Nothing,
     Row(usize),

@@ -4,15 +4,13 @@
 -- may be cut anywhere. `walk_done`: it ends at Done. `stop_never`: the stop at 45 rows is never taken.
 -- `walk_looks`, `walk_rows`: looks are the turns of the inner loop, and rows the steps that write one.
 -- `rows_iterate`, `looks_iterate`: n steps add the steps among them that write one, and the turns of the inner loop in them, whatever nang is.
-use Rattle.std.proofs.Common.{◌≡◌, ℕ, zero, suc, ◌+◌, ◌-◌, ◌*◌, ◌<◌, ◌≤◌, Bool, true, false, leb, get_or, sym, refl, ap, ◌∙◌, subst, zero-add, arith}
-use lib.Ieee.{nan, lt, le}
+use Rattle.std.proofs.Common.{◌≡◌, ℕ, zero, suc, ◌+◌, ◌*◌, ◌<◌, ◌≤◌, Bool, true, false, leb, sym, refl, ap, ◌∙◌, subst, zero-add, arith}
 use borrow.Author.Tests.{lt-leb}
-use Rattle.arith.specs.Floats.{◌⊖◌}
 use Rattle.arith.specs.Run.{rest, run, count, iterate, until, stop_by}
 use Rattle.arith.proofs.RunLaws.{Lessens, Raised, Kept, run_same, run_keeps, run_counts, run_iterate, iterate_add, iterate_fixed, iterate_keeps}
 use Rattle.findf.proofs.LookLaws.{looks_are_turns}
-use Rattle.findf.specs.Walk.{ang_of, search_by, search_of, next_layer_by, next_layer_of, next_cusp_by, next_cusp_of, filled_by, filled_of, with_label, done_at, start}
-use Rattle.findf.specs.Demand.{looks_from, looks_by, looks_at, looks_due, due, rows_due}
+use Rattle.findf.specs.Walk.{search_by, search_of, next_layer_by, next_layer_of, next_cusp_by, next_cusp_of, filled_by, filled_of, with_label, done_at, start}
+use Rattle.findf.specs.Demand.{looks_by, looks_at, looks_due, due, rows_due}
 use Rattle.findf.proofs.WalkLaws.{Good, μ, step_fine, few_looks, few_rows, good_start}
 use Rattle.findf.specs.Findf.{State, step_by, step_of, turn_of, walk_of, walk_steps}
 use Rattle.findf.specs.Inputs.{Inputs}

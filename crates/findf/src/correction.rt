@@ -11,21 +11,21 @@ use super::walk::Fill;
 use arith::{D2R, PIO2, RZ};
 
 // The corrected virtual height, and the sine of phe.
-#[derive(Drop)]
+#[derive(Clone, Copy)]
 pub(crate) struct Corrected {
     pub hp: f32,
     pub sphe: f32,
 }
 
 // RZ times the cosine of ANG's angle ia, worked out before its row.
-#[derive(Drop)]
+#[derive(Clone, Copy)]
 pub(crate) struct Ahead {
     pub ia: usize,
     pub rcosd: f32,
 }
 
 // A row as it is written.
-#[derive(Drop)]
+#[derive(Clone, Copy)]
 pub(crate) struct Row {
     pub del: f32,
     pub hp: f32,

@@ -1,5 +1,7 @@
 // Translated from hfcast-engine (commit bf34e8f9f3), src/voacap/modes.rs lines 130 to 153 and 670 to 904, and changed.
 // findf: the reflectrix of one frequency in one area, into lent columns or by value.
+#![tactic(auto)]
+
 ghost use Rattle.std.specs.Prelude.{◌≡◌, ◌≤◌, true};
 ghost use Rattle.limits.specs.Limits.{freq_within};
 ghost use Rattle.findf.specs.Requires.{Entries, started_of};
@@ -26,7 +28,7 @@ pub const KIND_CUSP: u32 = 3;
 pub const KIND_NEXT_CUSP: u32 = 4;
 
 #[repr(C)]
-#[derive(Drop)]
+#[derive(Clone, Copy)]
 pub struct Reflectrix {
     pub delfx: [f32; 45],
     pub hpflx: [f32; 45],

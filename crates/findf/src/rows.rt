@@ -8,7 +8,7 @@ ghost use Rattle.findf.specs.Requires.{Entries, Safe};
 use super::look;
 use super::walk::{Fill, Label, Walk};
 
-#[derive(Drop)]
+#[derive(Clone, Copy)]
 pub(crate) struct Raw {
     pub del: f32,
     pub ht: f32,

@@ -21,7 +21,7 @@ pub(crate) const ANG: [f32; 40] = [
 ];
 
 // The row to write: from row ih at the angle, between rows ih and ih + 1, at the layer's cusp, or as the next layer's first.
-#[derive(Drop)]
+#[derive(Clone, Copy)]
 pub(crate) enum Fill {
     Exact,
     Interp,
@@ -29,7 +29,7 @@ pub(crate) enum Fill {
     NextCusp360,
 }
 
-#[derive(Drop)]
+#[derive(Clone, Copy)]
 pub(crate) enum Label {
     Search,
     NextLayer,
@@ -38,7 +38,7 @@ pub(crate) enum Label {
     Done,
 }
 
-#[derive(Drop)]
+#[derive(Clone, Copy)]
 pub(crate) struct Walk {
     pub label: Label,
     pub ia: usize,

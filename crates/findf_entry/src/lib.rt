@@ -1,4 +1,6 @@
 // A C entry of findf into lent columns, for the test host alone. It is a library of its own, in which findf_into is called from one place, as a product calls it.
+#![tactic(auto)]
+
 ghost use Rattle.std.specs.Prelude.{◌≡◌};
 ghost use Rattle.findf.specs.Inputs.{job_by};
 ghost use Rattle.findf.specs.Findf.{findf_of};

@@ -1,4 +1,6 @@
 // Translated from hfcast-engine (commit bf34e8f9f3), src/voacap/modes.rs lines 584 to 596, and changed.
+#![tactic(auto)]
+
 ghost use Rattle.std.specs.Prelude.{◌≡◌};
 ghost use Rattle.fnorml.specs.Fnorml.{tail_of, size_of, fnorml_of};
 

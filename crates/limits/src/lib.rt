@@ -1,4 +1,6 @@
 // The ranges that a job, `accumulate`, `prbmuf` and `esmod` are held to, each with the number of its refusal (document 01, "The bytes of a job"; document 02, order 1). Limits 1 and 2 are lengths: a call's own layout has them, and here are their numbers.
+#![tactic(auto)]
+
 ghost use Rattle.std.specs.Prelude.{◌≡◌, ◌≤◌};
 ghost use Rattle.limits.specs.Limits.{k_within, nang_within, freq_within, amind_within, ghop_within, fi_within};
 ghost use Rattle.limits.specs.Limits.{fvert_within, hprim_within, htrue_within, afac_within, entries_within};
@@ -43,6 +45,7 @@ pub enum Checked {
     Broken(u32),
 }
 
+#[tactic(auto, using(crate::proofs::CheckedLaws::broken_by), unfolding(crate::specs::Limits::checked_by))]
 pub fn checked_by(refusal: u32) -> Checked
     ensures { result ≡ checked_by refusal }
 {

@@ -1,5 +1,7 @@
 // All words of an answer: number, name, value, bits, a line each. A template is a part's line: its name stands here and nowhere else.
 // In it A is the word's number, B the place in its part, counted from 1, and C the word.
+#![tactic(auto)]
+
 ghost use Rattle.std.specs.Prelude.{◌≤◌, length};
 
 use decimal::{filled, inside};

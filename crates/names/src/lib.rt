@@ -1,4 +1,6 @@
 // Names as the sheet and the drawing show them: a job's and a layer's.
+#![tactic(auto)]
+
 ghost use Rattle.std.specs.Prelude.{◌≡◌, ◌≤◌, length, drop};
 ghost use Rattle.decimal.specs.Wrote.{Wrote};
 ghost use Rattle.names.specs.Names.{plain_of, plains_of, last_of, cut_of, shown_of, width_of, layer_of};

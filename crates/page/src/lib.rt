@@ -1,4 +1,6 @@
 // What a command prints of a job: the library's answer, as the page that is asked for.
+#![tactic(auto)]
+
 ghost use Rattle.std.specs.Prelude.{◌≡◌, true, ◌≤◌, length};
 ghost use Rattle.job.specs.Job.{refusal_of, left_of};
 ghost use Rattle.system.specs.Status.{is_status};

@@ -2,10 +2,10 @@
 use mathlib.Core.Path.{◌≡◌, refl, sym, ap, ◌∙◌, subst}
 use mathlib.Core.Bool.{Bool, true, false, not}
 use mathlib.Core.Logic.{◌⊎◌, inl, inr}
-use Prim.Native.Nat.{ℕ, suc, ◌+◌, ◌-◌, ◌*◌, ◌/◌, ◌%◌, ◌^◌, ◌≤◌, ◌<◌, compare, Ordering}
-use native.Mathlib.Nat.{zero-mul, zero-div, mul_comm, mul_assoc, mul-one, mul_right_comm, le_trans, le_of_eq, le_antisymm, lt_of_not-le, lt_irrefl, lt_of_lt_of_le, lt_of_le_of_lt, eq-or-lt_of_le, mul-le-mul_right, mul-lt-mul_of_pos_right, mul-pos, le-mul_of_pos_right, le-div_iff_mul-le, div-lt_iff_lt-mul, mul-div_cancel}
+use Prim.Native.Nat.{ℕ, ◌+◌, ◌-◌, ◌*◌, ◌/◌, ◌%◌, ◌^◌, ◌≤◌, ◌<◌, compare, Ordering}
+use native.Mathlib.Nat.{zero-mul, zero-div, mul_comm, mul_assoc, mul_right_comm, le_trans, le_of_eq, le_antisymm, lt_of_not-le, lt_irrefl, lt_of_lt_of_le, lt_of_le_of_lt, eq-or-lt_of_le, mul-le-mul_right, mul-lt-mul_of_pos_right, mul-pos, le-mul_of_pos_right, le-div_iff_mul-le, div-lt_iff_lt-mul, mul-div_cancel}
 use native.Mathlib.Omega.{arith}
-use lib.Dec.{T, is_le, compare_is_eq, eqb, lit<, lit≤, leb→le, nleb→lt, eqb→eq, eqb_refl}
+use lib.Dec.{T, is_le, compare_is_eq, eqb, lit<, leb→le, nleb→lt, eqb→eq, eqb_refl}
 use lib.Arith.{lt_of_le-ne}
 use lib.Pow.{pow_pos, pow_mono, pow-lt, pow-add, shl_lt, shl-shr}
 use lib.Ieee.{Float, nan, inf, fin, binary32, up, down, size, nearest, units, round, to_bits}

@@ -1,4 +1,6 @@
 // A number as text, and the f32 nearest to it.
+#![tactic(auto)]
+
 mod nearest;
 mod text;
 

@@ -1,5 +1,7 @@
 // Translated from hfcast-engine (commit bf34e8f9f3), src/voacap/modes.rs lines 601 to 668, and changed.
 // The penetration angles of the three layers.
+#![tactic(auto)]
+
 ghost use Rattle.std.specs.Prelude.{◌≡◌};
 ghost use Rattle.penang.specs.Penang.{frat_of, cusp_of, xm_of, cdel_of, f2_of, penang_of};
 

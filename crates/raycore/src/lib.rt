@@ -1,4 +1,6 @@
 // The product's library: the C entry points that document 01 and the orders of document 02 name, and no others.
+#![tactic(auto)]
+
 ghost use Rattle.std.specs.Prelude.{◌≡◌, length};
 ghost use Rattle.angles.specs.SinCos.{sin_of, cos_of};
 ghost use Rattle.angles.specs.Arcsine.{asin_of};

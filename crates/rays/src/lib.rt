@@ -1,4 +1,6 @@
 // The rays in the drawing, in SVG: a dot on the line of the asked length, its number in a ring beside it, and the list of angles and layers.
+#![tactic(auto)]
+
 ghost use Rattle.std.specs.Prelude.{◌+◌, ◌≤◌, ◌<◌, length};
 
 use decimal::{filled, text};
@@ -138,7 +140,7 @@ fn low(job: &[u8], answer: &[u8], up: u32, s: usize, out: &mut [u8], at: usize) 
 }
 
 // What is drawn of a rank or a slot: the leader to a ring, the dot and the ring, a slot that is too low.
-#[derive(Drop)]
+#[derive(Clone, Copy)]
 enum Piece {
     Leader,
     Ring,

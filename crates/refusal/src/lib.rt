@@ -1,4 +1,6 @@
 // What is said of a job that breaks a limit: two lines, the limit and what was found.
+#![tactic(auto)]
+
 mod found;
 mod sentence;
 

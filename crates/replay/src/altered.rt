@@ -5,6 +5,7 @@ use super::files::Read;
 use super::kinds::Kind;
 use super::tally::Tally;
 use super::{files, kinds, tally};
+use std::io;
 
 fn other(b: u8) -> u8 {
     if b == 0 { 1 } else { b - 1 }
@@ -43,8 +44,8 @@ fn each_word(kind: Kind, r: &mut [u8]) -> Tally {
 }
 
 // The file's first record.
-pub(crate) fn first(fd: i32, kind: Kind, r: &mut [u8]) -> Tally {
-    match files::next(fd, r) {
+pub(crate) fn first<F: io::Read>(file: &mut F, kind: Kind, r: &mut [u8]) -> Tally {
+    match files::next(file, r) {
         Read::Whole => each_word(kind, r),
         Read::End => tally::of_records(0, 0, false),
         Read::Broken => tally::of_records(0, 0, true),

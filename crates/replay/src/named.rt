@@ -4,6 +4,9 @@ ghost use Rattle.std.specs.Prelude.{◌≤◌};
 use super::tally::Tally;
 use super::{files, jobs, record, say, tally};
 use job::layout;
+use std::fs::File;
+use std::io;
+use std::rt::Files;
 
 const JOB: usize = layout::JOB_BYTES;
 
@@ -30,68 +33,100 @@ fn is_stored(number: u32, answer: [u8; ANSWER + 1], stored: [u8; STORED]) -> boo
     (number == words::word(&stored, 0)) & check::same(&answer[0..ANSWER], &stored[record::WORD..])
 }
 
-fn told(name: &[u8], number: u32, agrees: bool) {
-    say::text(name);
+fn told<P: Print>(out: &P, name: &[u8], number: u32, agrees: bool) {
+    say::text(out, name);
     if number == 0 {
-        say::text(b": accepted");
+        say::text(out, b": accepted");
     } else {
-        say::text(b": refused as ");
-        say::number(number as u64);
+        say::text(out, b": refused as ");
+        say::number(out, number as u64);
     }
     if !agrees {
-        say::text(b", and not as stored");
+        say::text(out, b", and not as stored");
     }
-    say::text(b"\n");
+    say::text(out, b"\n");
 }
 
 // Runs the sheet's job, with another word and cut to a length, on an answer of a length, and holds it against what is stored next.
-fn case(t: Tally, fd: i32, name: &[u8], at: usize, w: u32, length: usize, room: usize) -> Tally
+fn case<F: io::Read, P: Print>(
+    out: &P,
+    t: Tally,
+    file: &mut F,
+    name: &[u8],
+    at: usize,
+    w: u32,
+    length: usize,
+    room: usize,
+) -> Tally
     requires { (length ≤ 5361) × (room ≤ 1641) }
 {
     let mut stored = [0u8; STORED];
-    files::next(fd, &mut stored);
+    files::next(file, &mut stored);
     let mut job = [0u8; JOB + 1];
     sheet(&mut job);
     words::put_word(&mut job, at, w);
     let mut answer = [jobs::UNWRITTEN; ANSWER + 1];
     let number = job::run(&job[0..length], &mut answer[0..room]);
     let agrees = is_stored(number, answer, stored);
-    told(name, number, agrees);
+    told(out, name, number, agrees);
     tally::plus(t, tally::of_records(agrees as u64, 1, false))
 }
 
-fn limits(t: Tally, fd: i32) -> Tally {
-    let a = case(t, fd, b"nang 40", 4, 40, JOB, ANSWER);
-    let b = case(a, fd, b"nang 41", 4, 41, JOB, ANSWER);
-    let c = case(b, fd, b"k 4", 0, 4, JOB, ANSWER);
-    let d = case(c, fd, b"k 5", 0, 5, JOB, ANSWER);
-    let e = case(d, fd, b"ifob 99999", 560, 99999, JOB, ANSWER);
-    case(e, fd, b"ifob 100000", 560, 100000, JOB, ANSWER)
+fn limits<F: io::Read, P: Print>(out: &P, t: Tally, file: &mut F) -> Tally {
+    let a = case(out, t, file, b"nang 40", 4, 40, JOB, ANSWER);
+    let b = case(out, a, file, b"nang 41", 4, 41, JOB, ANSWER);
+    let c = case(out, b, file, b"k 4", 0, 4, JOB, ANSWER);
+    let d = case(out, c, file, b"k 5", 0, 5, JOB, ANSWER);
+    let e = case(out, d, file, b"ifob 99999", 560, 99999, JOB, ANSWER);
+    case(out, e, file, b"ifob 100000", 560, 100000, JOB, ANSWER)
 }
 
-fn lengths(t: Tally, fd: i32) -> Tally {
-    let a = case(t, fd, b"job of 5,359 bytes", 0, 0, JOB - 1, ANSWER);
-    let b = case(a, fd, b"job of 5,360 bytes", 0, 0, JOB, ANSWER);
-    let c = case(b, fd, b"job of 5,361 bytes", 0, 0, JOB + 1, ANSWER);
-    let d = case(c, fd, b"answer of 1,639 bytes", 0, 0, JOB, ANSWER - 1);
-    case(d, fd, b"answer of 1,641 bytes", 0, 0, JOB, ANSWER + 1)
+fn lengths<F: io::Read, P: Print>(out: &P, t: Tally, file: &mut F) -> Tally {
+    let a = case(out, t, file, b"job of 5,359 bytes", 0, 0, JOB - 1, ANSWER);
+    let b = case(out, a, file, b"job of 5,360 bytes", 0, 0, JOB, ANSWER);
+    let c = case(out, b, file, b"job of 5,361 bytes", 0, 0, JOB + 1, ANSWER);
+    let d = case(
+        out,
+        c,
+        file,
+        b"answer of 1,639 bytes",
+        0,
+        0,
+        JOB,
+        ANSWER - 1,
+    );
+    case(
+        out,
+        d,
+        file,
+        b"answer of 1,641 bytes",
+        0,
+        0,
+        JOB,
+        ANSWER + 1,
+    )
 }
 
-fn root_of_4(t: Tally) -> Tally {
+fn root_of_4<P: Print>(out: &P, t: Tally) -> Tally {
     let agrees = words::bits(root::sqrt(4.0)) == words::bits(2.0);
     if agrees {
-        say::text(b"root of 4: 2\n");
+        say::text(out, b"root of 4: 2\n");
     } else {
-        say::text(b"root of 4: not 2\n");
+        say::text(out, b"root of 4: not 2\n");
     }
     tally::plus(t, tally::of_records(agrees as u64, 1, false))
 }
 
 // A file that cannot be read shows in each case: noughts are no answer.
-pub(crate) fn cases(t: Tally, path: &[u8]) -> Tally {
-    let fd = os::open_read(path);
-    let a = limits(t, fd);
-    let b = lengths(a, fd);
-    libc::close(fd);
-    root_of_4(b)
+pub(crate) fn cases<R: Files + Print>(rt: &R, t: Tally, path: &str) -> Tally {
+    let b = match File::open(rt, path) {
+        Ok(mut file) => of_sheet(rt, t, &mut file),
+        Err(_) => of_sheet(rt, t, &mut io::empty()),
+    };
+    root_of_4(rt, b)
+}
+
+fn of_sheet<F: io::Read, P: Print>(out: &P, t: Tally, file: &mut F) -> Tally {
+    let a = limits(out, t, file);
+    lengths(out, a, file)
 }

@@ -1,29 +1,28 @@
 // What is printed.
 use super::tally::Tally;
-use libc::STDOUT_FILENO;
 
-pub(crate) fn text(t: &[u8]) {
-    io::write_all(STDOUT_FILENO, t);
+pub(crate) fn text<P: Print>(out: &P, t: &[u8]) {
+    let _ = out.write_all(t);
 }
 
-pub(crate) fn number(n: u64) {
-    io::print_decimal(STDOUT_FILENO, n);
+pub(crate) fn number<P: Print>(out: &P, n: u64) {
+    let _ = out.print(n);
 }
 
-fn part(before: &[u8], n: u64, of: u64, after: &[u8]) {
-    text(before);
-    number(n);
-    text(b" of ");
-    number(of);
-    text(after);
+fn part<P: Print>(out: &P, before: &[u8], n: u64, of: u64, after: &[u8]) {
+    text(out, before);
+    number(out, n);
+    text(out, b" of ");
+    number(out, of);
+    text(out, after);
 }
 
-pub(crate) fn line(name: &[u8], t: Tally) {
-    text(name);
-    part(b": ", t.agree, t.records, b" agree");
-    part(b", and ", t.missed, t.altered, b" altered");
+pub(crate) fn line<P: Print>(out: &P, name: &[u8], t: Tally) {
+    text(out, name);
+    part(out, b": ", t.agree, t.records, b" agree");
+    part(out, b", and ", t.missed, t.altered, b" altered");
     if t.broken {
-        text(b", the rest cannot be read");
+        text(out, b", the rest cannot be read");
     }
-    text(b"\n");
+    text(out, b"\n");
 }

@@ -1,7 +1,7 @@
 // How many records agree.
 
 // Records that agree, of how many; altered ones that agree all the same, of how many; whether a file could not be read to its end.
-#[derive(Drop)]
+#[derive(Clone, Copy)]
 pub(crate) struct Tally {
     pub(crate) agree: u64,
     pub(crate) records: u64,

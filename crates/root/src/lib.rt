@@ -1,9 +1,14 @@
 // The square root of an f32: the nearest f32, by whole-number squares.
+#![tactic(auto)]
+
 ghost use Rattle.std.specs.Prelude.{◌≡◌, false, ◌+◌, ◌*◌, ◌^◌, ◌≤◌, ◌<◌};
 ghost use Rattle.std.specs.Float.{binary32};
 ghost use Rattle.std.specs.Float.Ieee.{of_bits, units};
 ghost use Rattle.root.specs.Root.{nearest_root, sqrt_of};
 ghost use Rattle.root.specs.Requires.{Apart};
+
+// The bits of infinity.
+const INFINITY: u32 = 0x7f80_0000;
 
 // The f32 s * 2^(e - 298), with all of s's 24 digits in use.
 #[derive(Drop)]
@@ -133,7 +138,7 @@ pub fn sqrt(x: f32) -> f32
 {
     if x > 0.0 {
         let b = f32::to_bits(x);
-        if b == 0x7f80_0000 { x } else { root_of_bits(b) }
+        if b == INFINITY { x } else { root_of_bits(b) }
     } else if x == 0.0 {
         x
     } else {

@@ -1,4 +1,6 @@
 // A float as a whole number of decimal units, rounded, and how many columns its text takes: all by value.
+#![tactic(auto)]
+
 mod sized;
 
 ghost use Rattle.std.specs.Prelude.{◌≡◌, ◌<◌, ◌≤◌, ◌^◌, min, length};

@@ -1,5 +1,7 @@
 // The scales of the drawing: where a length and an angle stand, and the steps at which an axis is marked.
 // Lengths in 0.1 km, angles in 0.001 deg, places in 0.1 px.
+#![tactic(auto)]
+
 ghost use Rattle.std.specs.Prelude.{◌≡◌, ◌+◌, ◌-◌, ◌*◌, ◌/◌, ◌<◌, ◌≤◌, min, max};
 ghost use Rattle.scale.specs.Scale.{step_at, Least, Marked, beyond_of, across_of, up_of, part_of, ax_of, ay_of, lifted_of, ring_of};
 
@@ -16,7 +18,7 @@ pub const BOTTOM: u32 = 5440;
 pub const LONGEST: u32 = 100_000_000;
 
 // A marked axis: its step in km or deg, how many steps, and the length or angle at which it ends.
-#[derive(Drop)]
+#[derive(Clone, Copy)]
 pub struct Axis {
     pub step: u32,
     pub count: u32,

@@ -1,4 +1,6 @@
 // The service sheet of a job and its answer, as text.
+#![tactic(auto)]
+
 ghost use Rattle.std.specs.Prelude.{◌≤◌, length};
 
 mod head;

@@ -1,9 +1,11 @@
 // Translated from hfcast-engine (commit bf34e8f9f3), src/voacap/sigdis.rs lines 52 to 79, and changed.
+#![tactic(auto)]
+
 ghost use Rattle.std.specs.Prelude.{◌≡◌};
 ghost use Rattle.sigdis.specs.Prbmuf.{spread_of, side_of, chance_of, prbmuf_of};
 
 // What prbmuf reads of a layer's distribution: the lower and the upper decile (muf.rs, lines 673 to 675).
-#[derive(Drop)]
+#[derive(Clone, Copy)]
 pub struct LayerMuf {
     pub sigl: f32,
     pub sigu: f32,

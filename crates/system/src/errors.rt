@@ -3,6 +3,8 @@ ghost use Rattle.std.specs.Prelude.{◌≡◌, ◌≤◌, length, true};
 ghost use Rattle.system.specs.Status.{is_status};
 
 use decimal::{inside, text};
+use std::io;
+use std::io::{Cursor, Write};
 
 // `ray: ` and a line: a word stands in it as it was given.
 fn line(before: &[u8], word: &[u8], after: &[u8], out: &mut [u8]) -> usize
@@ -14,33 +16,54 @@ fn line(before: &[u8], word: &[u8], after: &[u8], out: &mut [u8]) -> usize
     text(out, c, after)
 }
 
-fn say(fd: i32, before: &[u8], word: &[u8], after: &[u8]) {
-    let mut page = io::large_buffer();
+fn say<P: Print>(to: &P, before: &[u8], word: &[u8], after: &[u8]) {
+    let mut page = [0u8; 65536];
     let end = line(before, word, after, &mut page);
     let n = inside(end, &page);
-    io::write_all(fd, &page[..n]);
+    let _ = to.write_all(&page[..n]);
 }
 
 // Wrong use.
-pub fn wrong(err: i32, before: &[u8], word: &[u8], after: &[u8]) -> u32
+pub fn wrong<P: Print>(err: &P, before: &[u8], word: &[u8], after: &[u8]) -> u32
     ensures { is_status result ≡ true }
 {
     say(err, before, word, after);
     crate::USAGE
 }
 
-pub fn unwritten(err: i32, name: &[u8]) -> u32
+pub fn unwritten<P: Print>(err: &P, name: &[u8]) -> u32
     ensures { result ≡ 74 }
 {
     say(err, b"", name, b": not all could be written\n");
     crate::NOT_WRITTEN
 }
 
-// Why the call that just failed did, in the system's own words.
-pub fn failed(name: &[u8]) {
-    let mut page = io::large_buffer();
+// Why a call on the named file failed, in the system's own words.
+pub fn failed<R: Eprint>(rt: &R, name: &[u8], error: io::Error) {
+    let mut page = [0u8; 65536];
     let end = names::plains(name, &mut page, 0);
     let n = inside(end, &page);
-    io::write_all(libc::STDERR_FILENO, b"ray: ");
-    os::fail(&page[..n]);
+    if let Ok(shown) = str::from_utf8(&page[..n]) {
+        explain(rt, shown, error);
+    }
+}
+
+fn explain<R: Eprint>(rt: &R, name: &str, error: io::Error) {
+    let mut why = [0u8; 256];
+    let mut to = Cursor::new(&mut why[..]);
+    let _ = write!(to, "{error}");
+    let end = to.position() as usize;
+    let n = inside(end, &why);
+    if let Ok(whole) = str::from_utf8(&why[..n]) {
+        let words = without_number(whole);
+        let _ = eprintln!(rt; "ray: {name}: {words}");
+    }
+}
+
+// The words without the error's number, which std puts behind them.
+fn without_number(why: &str) -> &str {
+    match why.split_once(" (os error ") {
+        Some((words, _)) => words,
+        None => why,
+    }
 }

@@ -1,4 +1,6 @@
 // What the tool has of the system: its arguments, files to read and write, a place for errors.
+#![tactic(auto)]
+
 mod arguments;
 mod errors;
 mod files;

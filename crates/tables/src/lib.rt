@@ -1,4 +1,6 @@
 // The sheet's tables: the six slots, the rows of the reflectrix, the lines under them.
+#![tactic(auto)]
+
 ghost use Rattle.std.specs.Prelude.{◌≡◌, ◌<◌, ◌≤◌, length};
 
 use decimal::{filled, text};

@@ -1,4 +1,6 @@
 // C entries for the test host alone: what the product's own library has no entry for.
+#![tactic(auto)]
+
 ghost use Rattle.std.specs.Prelude.{◌≡◌};
 ghost use Rattle.root.specs.Root.{sqrt_of};
 ghost use Rattle.fnorml.specs.Fnorml.{fnorml_of};

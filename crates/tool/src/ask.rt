@@ -8,8 +8,15 @@ use crate::jobs;
 use command::{Pair, is, twice, word};
 use decimal::inside;
 use job::layout;
+use std::rt::Files;
 
-pub(crate) fn ask(line: &[u8], n: usize, out: i32, err: i32) -> u32
+pub(crate) fn ask<R: Files + Input + Eprint, O: Print, E: Print>(
+    rt: &R,
+    line: &[u8],
+    n: usize,
+    out: &O,
+    err: &E,
+) -> u32
     ensures { is_status result ≡ true }
 {
     if (n != 5) & (n != 7) & (n != 9) {
@@ -38,7 +45,7 @@ pub(crate) fn ask(line: &[u8], n: usize, out: i32, err: i32) -> u32
     if twice(p, r) | twice(q, r) {
         return again(line, 7, err);
     }
-    changed(line, p, q, r, out, err)
+    changed(rt, line, p, q, r, out, err)
 }
 
 // The pair whose name is word i, where the line has it.
@@ -52,7 +59,7 @@ fn pair(line: &[u8], n: usize, i: usize) -> Pair
 }
 
 // Whether nothing is wrong with the pair whose name is word i; else it is said what.
-fn said(line: &[u8], i: usize, p: Pair, err: i32) -> bool
+fn said<E: Print>(line: &[u8], i: usize, p: Pair, err: &E) -> bool
     requires { i < 9 }
 {
     match p {
@@ -79,7 +86,7 @@ fn said(line: &[u8], i: usize, p: Pair, err: i32) -> bool
     }
 }
 
-fn again(line: &[u8], i: usize, err: i32) -> u32
+fn again<E: Print>(line: &[u8], i: usize, err: &E) -> u32
     ensures { is_status result ≡ true }
 {
     system::wrong(
@@ -91,21 +98,29 @@ fn again(line: &[u8], i: usize, err: i32) -> u32
 }
 
 // The job that is read, with the words that the pairs change.
-fn changed(line: &[u8], p: Pair, q: Pair, r: Pair, out: i32, err: i32) -> u32
+fn changed<R: Files + Input + Eprint, O: Print, E: Print>(
+    rt: &R,
+    line: &[u8],
+    p: Pair,
+    q: Pair,
+    r: Pair,
+    out: &O,
+    err: &E,
+) -> u32
     ensures { is_status result ≡ true }
 {
     let name = word(line, 1);
     let mut job = [0u8; 5361];
-    let taken = system::read(name, &mut job);
+    let taken = system::read(rt, name, &mut job);
     if taken.failed {
         return system::NO_INPUT;
     }
     put_all(&mut job, p, q, r);
     let end = inside(taken.count, &job);
     if is(name, b"-") {
-        return written(b"standard input", &job[..end], word(line, 2), out, err);
+        return written(rt, b"standard input", &job[..end], word(line, 2), out, err);
     }
-    written(name, &job[..end], word(line, 2), out, err)
+    written(rt, name, &job[..end], word(line, 2), out, err)
 }
 
 fn put_all(job: &mut [u8], p: Pair, q: Pair, r: Pair)
@@ -117,7 +132,14 @@ fn put_all(job: &mut [u8], p: Pair, q: Pair, r: Pair)
 }
 
 // The changed job goes out where the library accepts it.
-fn written(name: &[u8], job: &[u8], file: &[u8], out: i32, err: i32) -> u32
+fn written<R: Files + Eprint, O: Print, E: Print>(
+    rt: &R,
+    name: &[u8],
+    job: &[u8],
+    file: &[u8],
+    out: &O,
+    err: &E,
+) -> u32
     ensures result_value { ends_as (refusal_of job.now answer_bytes) result ≡ true }
     ensures result_value_2 { is_status result ≡ true }
 {
@@ -126,5 +148,5 @@ fn written(name: &[u8], job: &[u8], file: &[u8], out: i32, err: i32) -> u32
     if number != 0 {
         return jobs::refused(name, job, number, false, out, err);
     }
-    system::write(job, file, out, err)
+    system::write(rt, job, file, out, err)
 }

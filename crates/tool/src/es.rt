@@ -5,8 +5,15 @@ ghost use Rattle.es_file.specs.File.{number_of};
 
 use command::{is, word};
 use decimal::{inside, text};
+use std::rt::Files;
 
-pub(crate) fn es(line: &[u8], n: usize, out: i32, err: i32) -> u32
+pub(crate) fn es<R: Files + Input + Eprint, O: Print, E: Print>(
+    rt: &R,
+    line: &[u8],
+    n: usize,
+    out: &O,
+    err: &E,
+) -> u32
     ensures { is_status result ≡ true }
 {
     if n != 2 {
@@ -14,7 +21,7 @@ pub(crate) fn es(line: &[u8], n: usize, out: i32, err: i32) -> u32
     }
     let name = word(line, 1);
     let mut file = [0u8; 105];
-    let taken = system::read(name, &mut file);
+    let taken = system::read(rt, name, &mut file);
     if taken.failed {
         return system::NO_INPUT;
     }
@@ -25,7 +32,7 @@ pub(crate) fn es(line: &[u8], n: usize, out: i32, err: i32) -> u32
     answered(name, &file[..end], out, err)
 }
 
-fn answered(name: &[u8], file: &[u8], out: i32, err: i32) -> u32
+fn answered<O: Print, E: Print>(name: &[u8], file: &[u8], out: &O, err: &E) -> u32
     ensures result_value { ends_as (number_of file.now) result ≡ true }
     ensures result_value_2 { is_status result ≡ true }
 {
@@ -33,20 +40,20 @@ fn answered(name: &[u8], file: &[u8], out: i32, err: i32) -> u32
     if number != 0 {
         return complained(name, file, number, err);
     }
-    let mut page = io::large_buffer();
+    let mut page = [0u8; 65536];
     let length = es_sheet::page(name, file, &mut page);
     let end = inside(length, &page);
     system::print(&page[..end], out, err)
 }
 
 // The two lines of a refusal. The status is the number.
-fn complained(name: &[u8], file: &[u8], number: u32, err: i32) -> u32
+fn complained<E: Print>(name: &[u8], file: &[u8], number: u32, err: &E) -> u32
     ensures { result ≡ number }
 {
-    let mut page = io::large_buffer();
+    let mut page = [0u8; 65536];
     let a = text(&mut page, 0, b"ray: ");
     let length = es_sheet::refusal(name, file, number, &mut page, a);
     let end = inside(length, &page);
-    io::write_all(err, &page[..end]);
+    let _ = err.write_all(&page[..end]);
     number
 }

@@ -2,7 +2,7 @@
 ghost use Rattle.std.specs.Prelude.{◌≡◌, true};
 ghost use Rattle.system.specs.Status.{is_status};
 
-pub(crate) fn help(words: usize, out: i32, err: i32) -> u32
+pub(crate) fn help<O: Print, E: Print>(words: usize, out: &O, err: &E) -> u32
     ensures { is_status result ≡ true }
 {
     if words > 1 {

@@ -6,19 +6,36 @@ ghost use Rattle.system.specs.Status.{is_status, ends_as};
 use command::{Verb, is, word};
 use decimal::{inside, text};
 use job::layout;
+use std::rt::Files;
 
 // A command with JOB alone.
-pub(crate) fn one(line: &[u8], n: usize, verb: Verb, usage: &[u8], out: i32, err: i32) -> u32
+pub(crate) fn one<R: Files + Input + Eprint, O: Print, E: Print>(
+    rt: &R,
+    line: &[u8],
+    n: usize,
+    verb: Verb,
+    usage: &[u8],
+    out: &O,
+    err: &E,
+) -> u32
     ensures { is_status result ≡ true }
 {
     if n != 2 {
         return system::wrong(err, usage, b"", b"");
     }
-    of_job(line, n, verb, out, err)
+    of_job(rt, line, n, verb, out, err)
 }
 
 // A command with JOB and perhaps FILE.
-pub(crate) fn one_or_two(line: &[u8], n: usize, verb: Verb, usage: &[u8], out: i32, err: i32) -> u32
+pub(crate) fn one_or_two<R: Files + Input + Eprint, O: Print, E: Print>(
+    rt: &R,
+    line: &[u8],
+    n: usize,
+    verb: Verb,
+    usage: &[u8],
+    out: &O,
+    err: &E,
+) -> u32
     ensures { is_status result ≡ true }
 {
     if n < 2 {
@@ -27,21 +44,29 @@ pub(crate) fn one_or_two(line: &[u8], n: usize, verb: Verb, usage: &[u8], out: i
     if n > 3 {
         return system::wrong(err, usage, b"", b"");
     }
-    of_job(line, n, verb, out, err)
+    of_job(rt, line, n, verb, out, err)
 }
 
-fn of_job(line: &[u8], n: usize, verb: Verb, out: i32, err: i32) -> u32
+fn of_job<R: Files + Input + Eprint, O: Print, E: Print>(
+    rt: &R,
+    line: &[u8],
+    n: usize,
+    verb: Verb,
+    out: &O,
+    err: &E,
+) -> u32
     ensures { is_status result ≡ true }
 {
     let name = word(line, 1);
     let mut job = [0u8; 5361];
-    let taken = system::read(name, &mut job);
+    let taken = system::read(rt, name, &mut job);
     if taken.failed {
         return system::NO_INPUT;
     }
     let end = inside(taken.count, &job);
     if is(name, b"-") {
         return answered(
+            rt,
             b"standard input",
             &job[..end],
             verb,
@@ -51,18 +76,19 @@ fn of_job(line: &[u8], n: usize, verb: Verb, out: i32, err: i32) -> u32
             err,
         );
     }
-    answered(name, &job[..end], verb, n == 3, word(line, 2), out, err)
+    answered(rt, name, &job[..end], verb, n == 3, word(line, 2), out, err)
 }
 
 // All the work is done before the output is opened.
-fn answered(
+fn answered<R: Files + Eprint, O: Print, E: Print>(
+    rt: &R,
     name: &[u8],
     job: &[u8],
     verb: Verb,
     to_file: bool,
     file: &[u8],
-    out: i32,
-    err: i32,
+    out: &O,
+    err: &E,
 ) -> u32
     ensures result_value { ends_as (refusal_of job.now answer_bytes) result ≡ true }
     ensures result_value_2 { is_status result ≡ true }
@@ -72,11 +98,11 @@ fn answered(
     if number != 0 {
         return refused(name, job, number, is_check(verb), out, err);
     }
-    let mut text = io::large_buffer();
+    let mut text = [0u8; 65536];
     let length = page::page(verb, name, job, &answer, &mut text);
     let end = inside(length, &text);
     if to_file {
-        return system::write(&text[..end], file, out, err);
+        return system::write(rt, &text[..end], file, out, err);
     }
     system::print(&text[..end], out, err)
 }
@@ -96,13 +122,13 @@ fn is_check(verb: Verb) -> bool {
 }
 
 // The two lines of a refusal: an answer of `check`, else an error. The status is the number.
-pub(crate) fn refused(
+pub(crate) fn refused<O: Print, E: Print>(
     name: &[u8],
     job: &[u8],
     number: u32,
     checked: bool,
-    out: i32,
-    err: i32,
+    out: &O,
+    err: &E,
 ) -> u32
     requires { is_status number ≡ true }
     ensures result_value { ends_as number result ≡ true }
@@ -114,27 +140,27 @@ pub(crate) fn refused(
     complained(name, job, number, err)
 }
 
-fn reported(name: &[u8], job: &[u8], number: u32, out: i32, err: i32) -> u32
+fn reported<O: Print, E: Print>(name: &[u8], job: &[u8], number: u32, out: &O, err: &E) -> u32
     requires { is_status number ≡ true }
     ensures result_value { ends_as number result ≡ true }
     ensures result_value_2 { is_status result ≡ true }
 {
-    let mut page = io::large_buffer();
+    let mut page = [0u8; 65536];
     let length = refusal::refusal(name, job, number, &mut page, 0);
     let end = inside(length, &page);
-    if io::write_all(out, &page[..end]) {
+    if out.write_all(&page[..end]).is_ok() {
         return number;
     }
     system::unwritten(err, b"standard output")
 }
 
-fn complained(name: &[u8], job: &[u8], number: u32, err: i32) -> u32
+fn complained<E: Print>(name: &[u8], job: &[u8], number: u32, err: &E) -> u32
     ensures { result ≡ number }
 {
-    let mut page = io::large_buffer();
+    let mut page = [0u8; 65536];
     let a = text(&mut page, 0, b"ray: ");
     let length = refusal::refusal(name, job, number, &mut page, a);
     let end = inside(length, &page);
-    io::write_all(err, &page[..end]);
+    let _ = err.write_all(&page[..end]);
     number
 }

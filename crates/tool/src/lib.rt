@@ -1,4 +1,6 @@
 // The tool `ray`: reads a job, has the library answer it, and prints or writes what a command asks for. What is answered is the exit status.
+#![tactic(auto)]
+
 mod ask;
 mod es;
 mod help;
@@ -8,27 +10,28 @@ ghost use Rattle.std.specs.Prelude.{◌≡◌, true};
 ghost use Rattle.system.specs.Status.{is_status};
 
 use command::{Verb, count, verb_of, word};
+use std::rt::{Env, Files};
 
-// The tool over the program's own arguments.
-pub fn run() -> u32
+// The tool over the program's own arguments. What is printed goes to `out`, errors to `err`, the system's own words to standard error.
+pub fn run<R: Files + Env + Input + Eprint, O: Print, E: Print>(rt: &R, out: &O, err: &E) -> u32
     ensures { is_status result ≡ true }
 {
-    let mut line = io::large_buffer();
-    let gathered = system::gather(&mut line);
+    let mut line = [0u8; 65536];
+    let gathered = system::gather(rt, &mut line);
     if !gathered.whole {
-        return system::wrong(
-            libc::STDERR_FILENO,
-            b"a word on the command line is too long\n",
-            b"",
-            b"",
-        );
+        return system::wrong(err, b"a word on the command line is too long\n", b"", b"");
     }
     let end = decimal::inside(gathered.length, &line);
-    serve(&line[..end], libc::STDOUT_FILENO, libc::STDERR_FILENO)
+    serve(rt, &line[..end], out, err)
 }
 
 // The tool over a command line: words, each with a byte 0 behind it. What is printed goes to `out`, errors to `err`, the system's own words to standard error.
-pub fn serve(line: &[u8], out: i32, err: i32) -> u32
+pub fn serve<R: Files + Input + Eprint, O: Print, E: Print>(
+    rt: &R,
+    line: &[u8],
+    out: &O,
+    err: &E,
+) -> u32
     ensures { is_status result ≡ true }
 {
     let n = count(line);
@@ -44,9 +47,10 @@ pub fn serve(line: &[u8], out: i32, err: i32) -> u32
             word(line, 0),
             b"'; 'ray help' lists them\n",
         ),
-        Verb::Ask => ask::ask(line, n, out, err),
-        Verb::Es => es::es(line, n, out, err),
+        Verb::Ask => ask::ask(rt, line, n, out, err),
+        Verb::Es => es::es(rt, line, n, out, err),
         Verb::Draw => jobs::one_or_two(
+            rt,
             line,
             n,
             verb,
@@ -55,6 +59,7 @@ pub fn serve(line: &[u8], out: i32, err: i32) -> u32
             err,
         ),
         Verb::Job => jobs::one_or_two(
+            rt,
             line,
             n,
             verb,
@@ -63,6 +68,7 @@ pub fn serve(line: &[u8], out: i32, err: i32) -> u32
             err,
         ),
         Verb::Show => jobs::one(
+            rt,
             line,
             n,
             verb,
@@ -71,6 +77,7 @@ pub fn serve(line: &[u8], out: i32, err: i32) -> u32
             err,
         ),
         Verb::Check => jobs::one(
+            rt,
             line,
             n,
             verb,
@@ -79,6 +86,7 @@ pub fn serve(line: &[u8], out: i32, err: i32) -> u32
             err,
         ),
         Verb::Words => jobs::one(
+            rt,
             line,
             n,
             verb,

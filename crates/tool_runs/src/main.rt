@@ -1,21 +1,25 @@
 // Runs the tool on the command lines of standard input, words with a space between them: each line, what the tool prints, errors too, and its status.
+#![tactic(auto)]
+
 ghost use Rattle.std.specs.Prelude.{◌<◌, ◌≤◌, length};
 
-use libc::STDOUT_FILENO;
+use std::io;
+use std::rt::Files;
 
-fn main() {
-    let mut text = io::large_buffer();
-    let n = io::read_full(libc::STDIN_FILENO, &mut text);
-    runs(&text[..n]);
+fn main(rt: HostRuntime) -> io::Result<()> {
+    let mut text = [0u8; 65536];
+    let taken = system::read(&rt, b"-", &mut text);
+    runs(&rt, &text[..taken.count])
 }
 
-fn runs(text: &[u8]) {
+fn runs<R: Files + Input + Print + Eprint>(rt: &R, text: &[u8]) -> io::Result<()> {
     let mut at = 0usize;
     while at < text.len() {
         let end = line_end(text, at);
-        run(&text[at..end]);
+        run(rt, &text[at..end])?;
         at = next(text, at);
     }
+    Ok(())
 }
 
 fn line_end(text: &[u8], at: usize) -> usize
@@ -46,21 +50,19 @@ fn next(text: &[u8], at: usize) -> usize
     end
 }
 
-fn run(line: &[u8]) {
-    io::write_all(STDOUT_FILENO, b"$ ray ");
-    io::write_all(STDOUT_FILENO, line);
-    io::write_all(STDOUT_FILENO, b"\n");
-    let status = served(line);
-    io::write_all(STDOUT_FILENO, b"status ");
-    io::print_decimal(STDOUT_FILENO, status as u64);
-    io::write_all(STDOUT_FILENO, b"\n");
+fn run<R: Files + Input + Print + Eprint>(rt: &R, line: &[u8]) -> io::Result<()> {
+    rt.write_all(b"$ ray ")?;
+    rt.write_all(line)?;
+    rt.write_all(b"\n")?;
+    let status = served(rt, line);
+    println!(rt; "status {status}")
 }
 
-fn served(line: &[u8]) -> u32 {
-    let mut words = io::buffer();
+fn served<R: Files + Input + Print + Eprint>(rt: &R, line: &[u8]) -> u32 {
+    let mut words = [0u8; 4096];
     let n = split(line, &mut words);
     let end = decimal::inside(n, &words);
-    tool::serve(&words[..end], STDOUT_FILENO, STDOUT_FILENO)
+    tool::serve(rt, &words[..end], rt, rt)
 }
 
 // The line with a byte 0 behind each word.

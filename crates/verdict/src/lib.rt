@@ -1,4 +1,6 @@
 // The verdict on a job and its answer: its case, and its two lines of text.
+#![tactic(auto)]
+
 mod lines;
 
 ghost use Rattle.std.specs.Prelude.{◌≡◌};

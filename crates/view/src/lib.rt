@@ -1,4 +1,6 @@
 // What the sheet and the drawing read of the bytes of a job and of its answer, by name.
+#![tactic(auto)]
+
 ghost use Rattle.std.specs.Prelude.{◌≡◌, ◌+◌, ◌≤◌, min};
 ghost use Rattle.std.specs.Float.Ieee.{lt, le};
 ghost use Rattle.arith.specs.Floats.{f32};
@@ -28,7 +30,7 @@ pub enum State {
 }
 
 // How a row of the reflectrix was made.
-#[derive(Drop)]
+#[derive(Clone, Copy)]
 pub enum RowKind {
     Unwritten,
     Table,
@@ -68,6 +70,7 @@ pub fn asked(job: &[u8]) -> u32
 }
 
 // The bits of the critical frequency of layer l (0 E, 1 F1, 2 F2) at the job's point.
+#[tactic(auto, using(crate::proofs::ViewLaws::critical_is, crate::proofs::ViewLaws::no_point, crate::proofs::ViewLaws::no_layer))]
 pub fn critical(job: &[u8], l: usize) -> u32
     ensures { result ≡ critical_of job.now l }
 {
@@ -81,6 +84,7 @@ pub fn critical(job: &[u8], l: usize) -> u32
 }
 
 // Slot s, counted from 0.
+#[tactic(auto, using(crate::proofs::ViewLaws::slot_past, crate::proofs::ViewLaws::slot_empty, crate::proofs::ViewLaws::slot_ray, crate::proofs::ViewLaws::slot_low))]
 pub fn slot(job: &[u8], answer: &[u8], s: usize) -> State
     ensures { result ≡ slot_of job.now answer.now s }
 {
@@ -140,6 +144,7 @@ pub fn rays_before(job: &[u8], answer: &[u8], n: usize) -> usize
     k
 }
 
+#[tactic(auto, using(std::proofs::lemmas::Bool::Decides::nat_tests), unfolding(crate::specs::View::row_kind_by))]
 fn kind_by(n: u32) -> RowKind
     ensures { result ≡ row_kind_by n }
 {
@@ -159,6 +164,7 @@ fn kind_by(n: u32) -> RowKind
 }
 
 // The kind of row r, counted from 0.
+#[tactic(auto, using(std::proofs::lemmas::Bool::Decides::nat_tests), unfolding(crate::specs::View::row_kind_of))]
 pub fn row_kind(answer: &[u8], r: usize) -> RowKind
     ensures { result ≡ row_kind_of answer.now r }
 {

@@ -1,5 +1,7 @@
 // Words of 4 bytes, least byte first, in a slice of bytes; f32 by its bits; i32 in two's complement.
 // Every function is total: bytes past the end read as 0 and are not written.
+#![tactic(auto)]
+
 ghost use Rattle.std.specs.Prelude.{◌≡◌, ◌+◌, ◌*◌, ◌^◌, get_or, set};
 ghost use Rattle.std.specs.Float.{binary32};
 ghost use Rattle.std.specs.Float.Ieee.{of_bits, to_bits};
@@ -49,6 +51,7 @@ pub fn put_word(out: &mut [u8], at: usize, w: u32)
 }
 
 // The float of these bits; every NaN pattern is the one NaN.
+#[tactic(auto, using(crate::proofs::Nan::nan_pattern, crate::proofs::Nan::pattern_no_nan))]
 pub fn float(w: u32) -> f32
     ensures { result ≡ of_bits binary32 w }
 {

@@ -1,0 +1,40 @@
+use Rattle.std.proofs.Common.{◌≡◌, ℕ, ◌^◌, ◌≤◌, true, sym, ◌∙◌, subst, le_trans, lit≤}
+use Rattle.angles.specs.Grid.{one32, within}
+use Rattle.angles.proofs.Argument.{within_finite, finite_number, scaled_le, scaled_asked}
+use Rattle.angles.specs.Arccosine.{acos_of}
+use Rattle.angles.proofs.ArccosineLaws.{acos_steps_below}
+use Rattle.angles.proofs.Literals.{lit_0, lit_1, zero_by_zero}
+use Rattle.angles.proofs.arccosine.acos.Goals as goal
+use Rattle.angles.proofs.arccosine.acos.Goals.{After-is_within, Then-is_within}
+
+test : (c : After-is_within) → within one32 c.args.x ≡ c.is_within.result
+test c = cc lit_1
+
+taken : (c : Then-is_within) → within one32 c.args.x ≡ true
+taken c = cc (lit_1, c.if-is_within.true)
+
+pub scaled_by-requires-clause-fact_1 : goal.scaled_by-requires-clause-fact_1
+scaled_by-requires-clause-fact_1 c = (scaled_asked 0 57 (lit≤ tt) c.args.x (taken (goal.at.scaled_by-requires-clause-fact_1 c).Then-is_within)).0
+
+pub scaled_by-requires-clause-fact_2 : goal.scaled_by-requires-clause-fact_2
+scaled_by-requires-clause-fact_2 c = ((scaled_asked 0 57 (lit≤ tt) c.args.x (taken (goal.at.scaled_by-requires-clause-fact_2 c).Then-is_within)).1).0
+
+pub scaled_by-requires-clause-fact_3 : goal.scaled_by-requires-clause-fact_3
+scaled_by-requires-clause-fact_3 c = ((scaled_asked 0 57 (lit≤ tt) c.args.x (taken (goal.at.scaled_by-requires-clause-fact_3 c).Then-is_within)).1).1
+
+pub guess-requires : goal.guess-requires
+guess-requires c = let x = c.args.x in finite_number x (within_finite 0 x (taken (goal.at.guess-requires c).Then-is_within))
+
+pub steps-requires : goal.steps-requires
+steps-requires c = subst (λ (n : ℕ). n ≤ 2 ^ 57) (sym c.scaled_by.ensures) (scaled_le 0 57 c.args.x (taken (goal.at.steps-requires c).Then-is_within))
+
+pub in_steps-requires : goal.in_steps-requires
+in_steps-requires c = subst (λ (k : ℕ). k ≤ 2 ^ 24) (sym c.steps.ensures) (le_trans (acos_steps_below _ c.scaled_by.result) (lit≤ tt))
+
+pub returns-then-is_within : goal.returns-then-is_within
+unfolding acos_of
+returns-then-is_within c = rw (taken (goal.at.returns-then-is_within c).Then-is_within) (cc lit_0)
+
+pub returns-else-is_within : goal.returns-else-is_within
+unfolding acos_of
+returns-else-is_within c = rw (test (goal.at.returns-else-is_within c).After-is_within ∙ c.if-is_within.false) (cc zero_by_zero)

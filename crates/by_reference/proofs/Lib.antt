@@ -1,4 +1,0 @@
-pub mod Cells
-pub mod FdistParams
-pub mod FindfParams
-pub mod Locals

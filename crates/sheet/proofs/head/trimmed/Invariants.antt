@@ -1,0 +1,9 @@
+use lib.ListN.{length}
+use Prim.Native.Nat.{◌≤◌}
+use Rattle.sheet.proofs.head.trimmed.Given as goal
+
+abbrev pub invariant-loop-n : goal.invariant-loop-n
+invariant-loop-n l = l.n ≤ length l.out
+
+abbrev pub decreases-loop-n : goal.decreases-loop-n
+decreases-loop-n l = l.n

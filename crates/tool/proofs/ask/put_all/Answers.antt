@@ -1,0 +1,4 @@
+use Rattle.tool.proofs.ask.put_all.Goals as goal
+
+pub returns : goal.returns
+returns c = cc

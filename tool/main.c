@@ -1,3 +1,0 @@
-/* The exit status is what the proved tool answers. */
-unsigned ray_main(void);
-int main(void) { return (int)ray_main(); }
