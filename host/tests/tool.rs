@@ -609,15 +609,21 @@ fn closed_descriptors_do_no_harm() {
 fn names_are_shown_plain() {
     let folder = Folder::new("names");
     fs::create_dir(folder.file("deep")).unwrap();
-    let name = OsStr::from_bytes(b"deep/n\xffo\non.job");
+    let name = OsStr::new("deep/n\u{e9}o\non.job");
+    fs::copy(sample("noon"), folder.file("deep").join("n\u{e9}o\non.job")).unwrap();
+    let checked = folder.ray(&[OsStr::new("check"), name]);
+    assert_eq!(checked.text(), "deep/n??o?on.job: accepted\n");
+    // A path is text: a name that is not UTF-8 is refused, whether the file is there or not.
+    let other = OsStr::from_bytes(b"deep/n\xffo\non.job");
     fs::copy(sample("noon"), folder.file("deep").join(OsStr::from_bytes(b"n\xffo\non.job")))
         .unwrap();
-    let checked = folder.ray(&[OsStr::new("check"), name]);
-    assert_eq!(checked.text(), "deep/n?o?on.job: accepted\n");
+    let refused = "ray: deep/n?o?on.job: invalid filename\n";
+    folder.ray(&[OsStr::new("check"), other]).fails(66, refused);
+    folder.ray(&[OsStr::new("job"), name, other]).fails(73, refused);
     let first = |ran: Ran| ran.text().lines().next().unwrap().to_string();
     // The sheet has the last part alone, at the right.
     let shown = first(folder.ray(&[OsStr::new("show"), name]));
-    assert_eq!((shown.len(), shown.ends_with(" n?o?on.job")), (78, true), "{shown}");
+    assert_eq!((shown.len(), shown.ends_with(" n??o?on.job")), (78, true), "{shown}");
     let input = File::open(folder.file("noon.job")).unwrap();
     let shown = first(folder.ray_on(&["show", "-"], input.into()));
     assert!(shown.ends_with(" standard input"), "{shown}");
@@ -1083,7 +1089,9 @@ fn the_script_says_what_it_lacks() {
     folder.put("crates.txt", b"tool_entry:\n");
     let bin = folder.file("bin");
     fs::create_dir(&bin).unwrap();
-    for name in ["awk", "bash", "cat", "cp", "dirname", "find", "mkdir", "mv", "readlink", "sed", "wc"] {
+    for name in
+        ["awk", "bash", "cat", "cp", "dirname", "find", "mkdir", "mv", "readlink", "sed", "wc"]
+    {
         let found =
             Command::new("sh").args(["-c", &format!("command -v {name}")]).output().unwrap();
         let found = String::from_utf8(found.stdout).unwrap();
