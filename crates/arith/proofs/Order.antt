@@ -1,5 +1,5 @@
--- The order of floats: `<` is transitive (float-trans), asymmetric (float-asym), and excludes `==` (float_ne) and `>=` (float-not-le); a magnitude is not below 0, and minus a magnitude
--- is not above it; what is `<=` or `>=` something is a number (le-number), and `<=` is transitive (le_trans).
+-- The order of floats: `<` is transitive (float_trans), asymmetric (float_asym), and excludes `==` (float_ne) and `>=` (float_not_le); a magnitude is not below 0, and minus a magnitude
+-- is not above it; what is `<=` or `>=` something is a number (le_number), and `<=` is transitive (le_trans).
 -- Assumes nothing.
 use mathlib.Core.Path.{◌≡◌, refl, sym, subst, ◌∙◌}
 use mathlib.Core.Bool.{Bool, true, false, ◌&&◌, ◌||◌}

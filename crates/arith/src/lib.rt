@@ -30,7 +30,6 @@ pub fn abs(x: f32) -> f32
 }
 
 // a.min(b)
-#[tactic(auto, unfolding(crate::specs::Floats::min_of))]
 pub fn min(a: f32, b: f32) -> f32
     ensures { result ≡ min_of a b }
 {
@@ -44,7 +43,6 @@ pub fn min(a: f32, b: f32) -> f32
 }
 
 // a.max(b)
-#[tactic(auto, unfolding(crate::specs::Floats::max_of))]
 pub fn max(a: f32, b: f32) -> f32
     ensures { result ≡ max_of a b }
 {

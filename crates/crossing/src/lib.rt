@@ -105,7 +105,6 @@ fn crossed(job: &[u8], answer: &[u8], i: usize) -> bool
 }
 
 // Whether slot s, counted from 0, is a ray across a cusp.
-#[tactic(auto, using(crate::proofs::CrossingLaws::ray_crossed, crate::proofs::CrossingLaws::no_ray, crate::proofs::CrossingLaws::past))]
 pub fn across_cusp(job: &[u8], answer: &[u8], s: usize) -> bool
     ensures { result ≡ across_cusp job.now answer.now s }
 {

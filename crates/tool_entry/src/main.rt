@@ -18,7 +18,11 @@ fn ended<R: Files + Env + Input + Eprint, O: Print, E: Print>(rt: &R, out: &O, e
     ExitCode::from(ray_main(rt, out, err) as u8)
 }
 
-fn ray_main<R: Files + Env + Input + Eprint, O: Print, E: Print>(rt: &R, out: &O, err: &E) -> u32
+pub fn ray_main<R: Files + Env + Input + Eprint, O: Print, E: Print>(
+    rt: &R,
+    out: &O,
+    err: &E,
+) -> u32
     ensures { is_status result ≡ true }
 {
     tool::run(rt, out, err)

@@ -84,7 +84,6 @@ pub fn critical(job: &[u8], l: usize) -> u32
 }
 
 // Slot s, counted from 0.
-#[tactic(auto, using(crate::proofs::ViewLaws::slot_past, crate::proofs::ViewLaws::slot_empty, crate::proofs::ViewLaws::slot_ray, crate::proofs::ViewLaws::slot_low))]
 pub fn slot(job: &[u8], answer: &[u8], s: usize) -> State
     ensures { result ≡ slot_of job.now answer.now s }
 {

@@ -1,5 +1,5 @@
 -- Laws of words and their bytes: words written one after the other, and read back.
--- That a float and a signed number come back from their words: lib.Ieee.Bits.{ofBits-toBits, toBits-ofBits}, mir.Facts.{toZ-ofZ, ofZ-toZ}.
+-- That a float and a signed number come back from their words: lib.Ieee.Bits.{of_bits-to_bits, to_bits-of_bits}, mir.Facts.{to_z-of_z, of_z-to_z}.
 use mathlib.Core.Path.{◌≡◌, refl, sym, ap, ◌∙◌}
 use mathlib.Core.List.{List, [], ◌∷◌, ◌++◌, append_assoc}
 use Prim.Native.Nat.{ℕ, zero, suc, ◌+◌, ◌*◌, ◌/◌, ◌%◌, ◌^◌, ◌<◌, ◌≤◌}

@@ -1,0 +1,5 @@
+use mathlib.Core.Path.{refl}
+use Rattle.es_sheet.proofs.sheet.empty.Goals as goal
+
+pub returns : goal.returns
+returns c = refl

@@ -1,0 +1,5 @@
+use mathlib.Core.Path.{refl}
+use Rattle.findf.proofs.walk.put_row.Goals as goal
+
+pub returns : goal.returns
+returns c = refl

@@ -1,0 +1,4 @@
+use Rattle.limits.proofs.amind_within.Goals as goal
+
+pub returns : goal.returns
+returns c = cc

@@ -1,0 +1,4 @@
+use Rattle.test_entries.proofs.lent.ray_fdist_by_reference.Goals as goal
+
+pub returns : goal.returns
+returns c = cc
