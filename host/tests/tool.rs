@@ -9,7 +9,7 @@ use host::samples::{es_samples, summer, EsFile};
 use std::collections::HashMap;
 use std::ffi::{OsStr, OsString};
 use std::fs::{self, File};
-use std::io::Write;
+use std::io::{self, Write};
 use std::os::unix::ffi::OsStrExt;
 use std::os::unix::fs::{symlink, PermissionsExt};
 use std::path::{Path, PathBuf};
@@ -586,6 +586,20 @@ fn a_file_that_cannot_be_written_is_told() {
     // Before the file is opened.
     folder.ray(&["draw", "nix", "folder"]).fails(66, "ray: nix: No such file or directory\n");
     assert_eq!(folder.names(), ["bad.job", "folder", "noon.job", "summer.es"]);
+}
+
+/// A reader that has left, as `head` does: an output that fails, and no signal ends the tool.
+#[test]
+fn a_closed_pipe_is_told() {
+    let folder = Folder::new("pipe");
+    for command in ["show", "draw", "job", "words", "check"] {
+        let (reader, writer) = io::pipe().unwrap();
+        drop(reader);
+        let mut ray = Command::new(tool());
+        ray.args([command, "noon.job"]).current_dir(&folder.0).stdin(Stdio::null()).stdout(writer);
+        let ran = Ran::of(ray.output().unwrap());
+        ran.fails(74, "ray: standard output: not all could be written\n");
+    }
 }
 
 #[test]
