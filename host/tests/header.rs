@@ -455,10 +455,11 @@ fn structs() {
         [name, kind.to_string()]
     };
     for (name, c_name) in [("EsHop", "ray_es_hop"), ("EsModes", "ray_es_modes")] {
-        let crates = fields(
-            "crates/esmod/src/lib.rt",
-            &format!("#[repr(C)]\n#[derive(Clone, Copy)]\npub struct {name}"),
-        );
+        let esmod = read("crates/esmod/src/lib.rt");
+        let (before, _) = esmod.split_once(&format!("pub struct {name} {{\n")).expect(name);
+        let mut attributes = before.lines().rev().take_while(|line| line.starts_with("#["));
+        assert!(attributes.any(|line| line == "#[repr(C)]"), "{name}");
+        let crates = fields("crates/esmod/src/lib.rt", &format!("pub struct {name}"));
         let wrappers = fields("host/ray/src/call.rs", &format!("pub struct {name}"));
         assert_eq!(wrappers, crates);
         let headers = fields("include/ray.h", &format!("\nstruct {c_name}"));
