@@ -120,53 +120,30 @@ pub struct Walked {
     pub rfx: Reflectrix,
 }
 
-/// The numbers of a reflectrix beside its columns.
+/// The tables of one point; `ifob` angle by angle.
 #[repr(C)]
 #[derive(Clone, Copy)]
-pub struct Figures {
-    pub dskpkm: f32,
-    pub delskp: f32,
-    pub hpskp: f32,
-    pub htskp: f32,
-    pub dmaxkm: f32,
-    pub fvskp: f32,
-    pub iskp: u32,
-    pub delpen: [f32; 3],
-    pub iaftxr: usize,
-    pub rows_this_call: usize,
+pub struct Tables {
+    pub fvert: [f32; 30],
+    pub hprim: [f32; 30],
+    pub htrue: [f32; 30],
+    pub afac: [f32; 30],
+    pub ifob: [i32; 1200],
 }
 
-impl From<&Reflectrix> for Figures {
-    #[rustfmt::skip]
-    fn from(rfx: &Reflectrix) -> Self {
-        let &Reflectrix {
-            dskpkm, delskp, hpskp, htskp, dmaxkm, fvskp, iskp, delpen, iaftxr, rows_this_call, ..
-        } = rfx;
-        Figures {
-            dskpkm, delskp, hpskp, htskp, dmaxkm, fvskp, iskp, delpen, iaftxr, rows_this_call,
-        }
+impl From<&FindfJob> for Tables {
+    fn from(job: &FindfJob) -> Self {
+        let FindfJob { fvert, hprim, htrue, afac, ifob, .. } = *job;
+        Tables { fvert, hprim, htrue, afac, ifob }
     }
 }
 
-impl Reflectrix {
-    #[rustfmt::skip]
-    pub fn set_figures(&mut self, figures: Figures) {
-        let Figures {
-            dskpkm, delskp, hpskp, htskp, dmaxkm, fvskp, iskp, delpen, iaftxr, rows_this_call,
-        } = figures;
-        (self.dskpkm, self.delskp, self.hpskp, self.htskp) = (dskpkm, delskp, hpskp, htskp);
-        (self.dmaxkm, self.fvskp, self.iskp, self.delpen) = (dmaxkm, fvskp, iskp, delpen);
-        (self.iaftxr, self.rows_this_call) = (iaftxr, rows_this_call);
-    }
-}
-
-/// `findf`'s answer where the columns are lent.
+/// `findf`'s answer where the reflectrix is lent.
 #[repr(C)]
 #[derive(Clone, Copy)]
 pub struct Outcome {
     pub refusal: u32,
     pub looks: u32,
-    pub figures: Figures,
 }
 
 /// `findf`'s arguments beside the reflectrix; `ifob` angle by angle.
@@ -289,28 +266,16 @@ unsafe extern "C" {
         ifob: &[i32; 1200],
     ) -> Walked;
 
-    /// The same into lent columns, with the figures by value.
+    /// The same into a lent reflectrix.
     #[link_name = "ray_findf_into"]
     pub safe fn findf_into(
-        delfx: &mut [f32; 45],
-        hpflx: &mut [f32; 45],
-        htflx: &mut [f32; 45],
-        gdflx: &mut [f32; 45],
-        fvflx: &mut [f32; 45],
-        afflx: &mut [f32; 45],
-        imode: &mut [u32; 45],
-        kind: &mut [u32; 45],
-        figures: Figures,
+        rfx: &mut Reflectrix,
         k: usize,
         nang: usize,
         freq: f32,
         amind: f32,
         fi: &[[f32; 3]; 5],
-        fvert: &[f32; 30],
-        hprim: &[f32; 30],
-        htrue: &[f32; 30],
-        afac: &[f32; 30],
-        ifob: &[i32; 1200],
+        tables: &Tables,
     ) -> Outcome;
 
     /// On a refusal the slots are as they were, and the counts 0.

@@ -4,7 +4,7 @@ mod jobs;
 pub use jobs::*;
 
 use crate::ensure::{ensure, unchanged, Checked};
-use crate::entries::{self, Figures, FindfJob, Outcome, Reflectrix, Walked};
+use crate::entries::{self, FindfJob, Outcome, Reflectrix, Tables, Walked};
 use crate::floats;
 use crate::guarded::Guarded;
 use crate::limits;
@@ -29,23 +29,17 @@ pub fn by_reference(rfx: Reflectrix, job: &FindfJob) -> Walked {
     entries::findf_by_reference(rfx, *k, *nang, *freq, *amind, fi, fvert, hprim, htrue, afac, ifob)
 }
 
-/// The library's findf into the columns of a record; the figures go in and come back by value.
-pub fn into_columns(rfx: &mut Reflectrix, figures: Figures, job: &FindfJob) -> Outcome {
-    let FindfJob { k, nang, freq, amind, fi, fvert, hprim, htrue, afac, ifob } = job;
-    let Reflectrix { delfx, hpflx, htflx, gdflx, fvflx, afflx, imode, kind, .. } = rfx;
-    entries::findf_into(
-        delfx, hpflx, htflx, gdflx, fvflx, afflx, imode, kind, figures, *k, *nang, *freq, *amind,
-        fi, fvert, hprim, htrue, afac, ifob,
-    )
+/// The library's findf into a lent record; the tables are the job's.
+pub fn in_place(rfx: &mut Reflectrix, job: &FindfJob, tables: &Tables) -> Outcome {
+    let FindfJob { k, nang, freq, amind, fi, .. } = job;
+    entries::findf_into(rfx, *k, *nang, *freq, *amind, fi, tables)
 }
 
 /// The same as by value, where the record stands between words that no call may touch.
 fn ours_in_place(rfx: Reflectrix, job: &FindfJob) -> Walked {
     let mut lent = Guarded::new(rfx);
-    let Outcome { refusal, looks, figures } =
-        into_columns(&mut lent.lent, Figures::from(&rfx), job);
+    let Outcome { refusal, looks } = in_place(&mut lent.lent, job, &Tables::from(job));
     assert!(lent.is_intact());
-    lent.lent.set_figures(figures);
     Walked { refusal, looks, rfx: lent.lent }
 }
 

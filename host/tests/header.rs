@@ -278,14 +278,13 @@ fn kinds() {
     }
 }
 
-/// The two ends in the body of a function of limits.rt: those of the n-th `within(..)`.
-fn ends(function: &str, nth: usize) -> [f32; 2] {
+/// The two ends of a range of limits.rt.
+fn ends(name: &str) -> [f32; 2] {
     let text = read("crates/limits/src/lib.rt");
-    let (_, body) = text.split_once(&format!("pub fn {function}_within(")).expect(function);
-    let (body, _) = body.split_once("\n}").unwrap();
-    let call = body.split(" within(").nth(nth + 1).expect(function);
-    let mut numbers = call.split(", ").map(|n| n.parse::<f32>());
-    [numbers.next().unwrap().unwrap(), numbers.next().unwrap().unwrap()]
+    let (_, after) = text.split_once(&format!("pub const {name}: Range = Range(")).expect(name);
+    let (numbers, _) = after.split_once(");").unwrap();
+    let (low, high) = numbers.split_once(", ").unwrap();
+    [low.parse().unwrap(), high.parse().unwrap()]
 }
 
 /// Whether the body of a function of limits.rt has this text.
@@ -298,28 +297,28 @@ fn has(function: &str, text: &str) -> bool {
 #[test]
 fn ranges() {
     let floats = [
-        (Field::Freq, "FREQ", ends("freq", 0)),
-        (Field::Amind, "AMIND", ends("amind", 0)),
-        (Field::Ghop, "GHOP", ends("ghop", 0)),
-        (Field::FiF1, "FI_F1", ends("fi", 0)),
-        (Field::FiF2, "FI_F2", ends("fi", 1)),
-        (Field::Fvert, "FVERT", ends("fvert", 0)),
-        (Field::Hprim, "HPRIM", ends("hprim", 0)),
-        (Field::Htrue, "HTRUE", ends("htrue", 0)),
-        (Field::Afac, "AFAC", ends("afac", 0)),
+        (Field::Freq, "FREQ", ends("FREQ")),
+        (Field::Amind, "AMIND", ends("AMIND")),
+        (Field::Ghop, "GHOP", ends("GHOP")),
+        (Field::FiF1, "FI_F1", ends("FI_2")),
+        (Field::FiF2, "FI_F2", ends("FI_3")),
+        (Field::Fvert, "FVERT", ends("FVERT")),
+        (Field::Hprim, "HPRIM", ends("HPRIM")),
+        (Field::Htrue, "HTRUE", ends("HTRUE")),
+        (Field::Afac, "AFAC", ends("AFAC")),
     ];
     for (field, name, crates) in floats {
         let headers = ["MIN", "MAX"].map(|end| number(&format!("{name}_{end}")));
         assert_eq!(headers, crates, "{name}");
         assert_eq!([field.range().low, field.range().high], crates, "{name}");
     }
-    let of_es = [("HS", ends("hs", 0)), ("FS", ends("fs", 0)), ("GCD", ends("gcd", 0))];
-    let of_es = of_es.into_iter().chain([("GCDKM", ends("gcdkm", 0))]);
+    let of_es = [("HS", ends("HS")), ("FS", ends("FS")), ("GCD", ends("GCD"))];
+    let of_es = of_es.into_iter().chain([("GCDKM", ends("GCDKM"))]);
     for (name, crates) in of_es.clone() {
         assert_eq!(["MIN", "MAX"].map(|end| number(&format!("{name}_{end}"))), crates, "{name}");
     }
     let [low, high] = ["KM_MIN", "KM_MAX"].map(number);
-    assert!(has("km", &format!("({low} <= km) & (km <= {high})")));
+    assert!(has("km", &format!("({low}..={high}).contains(&km)")));
     for (field, function, name) in [(Field::K, "k", "K_MAX"), (Field::Nang, "nang", "NANG_MAX")] {
         let most = number(name);
         assert!(has(function, &format!("{function} <= {most}")), "{name}");
@@ -340,10 +339,15 @@ const WITHOUT_ENTRY: [&str; 3] = ["SLOTS", "COUNT", "LAYER"];
 
 #[test]
 fn refusals() {
-    let limits = constants("crates/limits/src/lib.rt");
-    let numbers = limits.iter().filter_map(|(name, n)| {
-        let name = name.strip_prefix("REFUSAL_")?;
-        (!WITHOUT_ENTRY.contains(&name)).then(|| (name.to_string(), n.parse().unwrap()))
+    // The enum's first case has the number 1, and each next one the next.
+    let limits = read("crates/limits/src/lib.rt");
+    let (_, after) = limits.split_once("pub enum Refusal {\n").unwrap();
+    let (cases, _) = after.split_once("\n}").unwrap();
+    assert!(cases.trim_start().starts_with("Job = 1,"));
+    let names = cases.lines().map(|line| line.trim().trim_end_matches(" = 1,").trim_end_matches(','));
+    let numbers = (1..).zip(names).filter_map(|(n, name)| {
+        let name = name.to_uppercase();
+        (!WITHOUT_ENTRY.contains(&name.as_str())).then_some((name, n))
     });
     let headers = defined_as("REFUSED_");
     assert_eq!(headers, numbers.collect());

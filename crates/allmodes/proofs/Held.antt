@@ -1,6 +1,6 @@
 -- For `held_count` and `add_held`: the slots that a loop from i to `to` has still before it, by what slot i is; and what a turn that adds a slot makes of the list.
 use Prim.Native.Nat.{ℕ, suc, ◌+◌, ◌-◌, ◌≤◌, ◌<◌}
-use mathlib.Core.Path.{◌≡◌}
+use mathlib.Core.Path.{◌≡◌, refl}
 use mathlib.Core.Bool.{true, false}
 use mathlib.Core.List.{List, [], ◌∷◌}
 use native.Mathlib.Numerals.{add-one}
@@ -29,3 +29,7 @@ module _ (hp : List Float) {i to : ℕ} where
 pub put_adds : (zon : Zon) (m : AllModes) (i : ℕ) {n : ℕ} {nmode : List ℤ} → n ≡ m.nmmod → nmode ≡ set m.nmode n (get_or zon.nmode i (pos 0)) → put_reals zon m i n nmode ≡ add_slot zon m i
 unfolding add_slot
 put_adds zon m i e f = cc
+
+pub added_one : (zon : Zon) (m : AllModes) (i : ℕ) → (add_slot zon m i).nmmod ≡ m.nmmod + 1
+unfolding add_slot put_reals
+added_one zon m i = refl

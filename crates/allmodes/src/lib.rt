@@ -3,7 +3,10 @@
 
 ghost use Rattle.std.specs.Prelude.{◌≡◌, ◌+◌, ◌-◌, ◌<◌, ◌≤◌, get_or, length, set, pos};
 ghost use mathlib.Core.List.{foldl};
-ghost use Rattle.allmodes.specs.AllModes.{reset_of, accumulate_of, add_slot, held};
+ghost use Rattle.limits.specs.Limits.{code_of};
+ghost use Rattle.allmodes.specs.AllModes.{reset_of, accumulated, accumulate_of, add_slot, held};
+
+use limits::Refusal;
 
 // The seven mode slots of one hop.
 #[repr(C)]
@@ -66,7 +69,7 @@ pub struct AllModes {
     pub nmmod: usize,
 }
 
-// The list, and 0 or the number of the limit that refuses.
+// What C is answered: the list, and 0 or the number of the limit that refuses.
 #[repr(C)]
 #[derive(Drop)]
 pub struct Accumulated {
@@ -74,112 +77,96 @@ pub struct Accumulated {
     pub modes: AllModes,
 }
 
-// For a new frequency: the listed columns are cleared, the rest keep their contents.
-pub fn reset(m: AllModes) -> AllModes
-    ensures { result ≡ reset_of m }
-{
-    let mut out = m;
-    out.nmmod = 0;
-    out.tloss = [99999.0; 20];
-    out.tllow = [999.0; 20];
-    out.tlhgh = [999.0; 20];
-    out.hp = [-1.0; 20];
-    out
-}
-
 // Slot i at place n, in the one column of whole numbers.
 fn put_nmode(to: &mut [i32; 20], n: usize, from: &[i32; 7], i: usize)
     requires { (i < 7) × (n < 20) }
     ensures { to.new ≡ set to.old n (get_or from.now i (pos 0)) }
 {
-    let nmode = from[i];
-    to[n] = nmode;
+    to[n] = from[i];
 }
 
-// The list's next free place, told with its bound to the stores that follow.
-fn next_place(nmmod: usize) -> usize
-    requires { nmmod < 20 }
-    ensures { (result ≡ nmmod) × (result < 20) }
-{
-    nmmod
+impl Zon {
+    // How many of the slots from..to hold a mode, counted from 0.
+    fn held_count(&self, from: usize, to: usize) -> usize
+        requires { to ≤ 7 }
+        ensures { result ≡ length (held self.now.hp from (to - from)) }
+    {
+        let mut n = 0;
+        for i in from..to {
+            if self.hp[i] > 0.0 {
+                n += 1;
+            }
+        }
+        n
+    }
 }
 
-// How many of the slots from..to hold a mode, counted from 0.
-fn held_count(hp: &[f32; 7], from: usize, to: usize) -> usize
-    requires { to ≤ 7 }
-    ensures { result ≡ length (held hp.now from (to - from)) }
-{
-    let mut n = 0;
-    let mut i = from;
-    while i < to {
-        let at = i;
-        i += 1;
-        if hp[at] > 0.0 {
-            n += 1;
+impl AllModes {
+    // For a new frequency: the listed columns are cleared, the rest keep their contents.
+    pub fn reset(&mut self)
+        ensures { self.new ≡ reset_of self.old }
+    {
+        self.nmmod = 0;
+        self.tloss = [99999.0; 20];
+        self.tllow = [999.0; 20];
+        self.tlhgh = [999.0; 20];
+        self.hp = [-1.0; 20];
+    }
+
+    // Slot i of zon, at the list's next free place. nmode, the one signed column, goes last.
+    fn add_slot(&mut self, zon: &Zon, i: usize)
+        requires { (i < 7) × (self.old.nmmod < 20) }
+        ensures { self.new ≡ add_slot zon.now self.old i }
+    {
+        let n = self.nmmod;
+        self.nmmod = n + 1;
+        self.tloss[n] = zon.tloss[i];
+        self.tllow[n] = zon.tllow[i];
+        self.tlhgh[n] = zon.tlhgh[i];
+        self.hp[n] = zon.hp[i];
+        self.crel[n] = zon.crel[i];
+        self.rely[n] = zon.rely[i];
+        self.hn[n] = zon.hn[i];
+        self.sn[n] = zon.sn[i];
+        self.fldst[n] = zon.fldst[i];
+        self.sigpow[n] = zon.sigpow[i];
+        self.b[n] = zon.b[i];
+        self.timed[n] = zon.timed[i];
+        self.abps[n] = zon.abps[i];
+        self.prob[n] = zon.prob[i];
+        self.rgain[n] = zon.rgain[i];
+        self.tgain[n] = zon.tgain[i];
+        self.fslos[n] = zon.fslos[i];
+        self.spro[n] = zon.spro[i];
+        self.eff[n] = zon.eff[i];
+        self.grlos[n] = zon.grlos[i];
+        self.adv[n] = zon.adv[i];
+        self.obf[n] = zon.obf[i];
+        put_nmode(&mut self.nmode, n, &zon.nmode, i);
+    }
+
+    // Those of the slots from..to that hold a mode, added in order.
+    fn add_held(&mut self, zon: &Zon, from: usize, to: usize)
+        requires { (to ≤ 7) × (self.old.nmmod + length (held zon.now.hp from (to - from)) ≤ 20) }
+        ensures { self.new ≡ foldl (add_slot zon.now) self.old (held zon.now.hp from (to - from)) }
+    {
+        for i in from..to {
+            if zon.hp[i] > 0.0 {
+                self.add_slot(zon, i);
+            }
         }
     }
-    n
-}
 
-// Those of the slots from..to that hold a mode, added in order. nmode, the one signed column, goes last.
-fn add_held(m: AllModes, zon: Zon, from: usize, to: usize) -> AllModes
-    requires { (to ≤ 7) × (m.nmmod + length (held zon.hp from (to - from)) ≤ 20) }
-    ensures { result ≡ foldl (add_slot zon) m (held zon.hp from (to - from)) }
-{
-    let mut out = m;
-    let mut i = from;
-    while i < to {
-        let at = i;
-        i += 1;
-        if zon.hp[at] > 0.0 {
-            let n = next_place(out.nmmod);
-            out.nmmod = n + 1;
-            out.tloss[n] = zon.tloss[at];
-            out.tllow[n] = zon.tllow[at];
-            out.tlhgh[n] = zon.tlhgh[at];
-            out.hp[n] = zon.hp[at];
-            out.crel[n] = zon.crel[at];
-            out.rely[n] = zon.rely[at];
-            out.hn[n] = zon.hn[at];
-            out.sn[n] = zon.sn[at];
-            out.fldst[n] = zon.fldst[at];
-            out.sigpow[n] = zon.sigpow[at];
-            out.b[n] = zon.b[at];
-            out.timed[n] = zon.timed[at];
-            out.abps[n] = zon.abps[at];
-            out.prob[n] = zon.prob[at];
-            out.rgain[n] = zon.rgain[at];
-            out.tgain[n] = zon.tgain[at];
-            out.fslos[n] = zon.fslos[at];
-            out.spro[n] = zon.spro[at];
-            out.eff[n] = zon.eff[at];
-            out.grlos[n] = zon.grlos[at];
-            out.adv[n] = zon.adv[at];
-            out.obf[n] = zon.obf[at];
-            put_nmode(&mut out.nmode, n, &zon.nmode, at);
-        }
+    #[tactic(auto, using(limits::proofs::LimitsLaws::slots_within_lem, limits::proofs::LimitsLaws::count_within_lem), unfolding(crate::specs::AllModes::accumulate_of))]
+    // Slots ist to lst of zon, counted from 1. They are counted first, so that a refusal finds the list untouched.
+    pub fn accumulate(&mut self, zon: &Zon, ist: usize, lst: usize) -> Result<(), Refusal>
+        ensures { accumulated (code_of result) self.new ≡ accumulate_of self.old zon.now ist lst }
+    {
+        limits::check(limits::slots_within(ist, lst), Refusal::Slots)?;
+        let from = ist - 1;
+        let added = zon.held_count(from, lst);
+        limits::check(limits::count_within(self.nmmod, added), Refusal::Count)?;
+        self.add_held(zon, from, lst);
+        Ok(())
     }
-    out
-}
-
-// Slots ist to lst of zon, counted from 1. They are counted first, so that a refusal finds the list untouched.
-pub fn accumulate(m: AllModes, zon: Zon, ist: usize, lst: usize) -> Accumulated
-    ensures { result ≡ accumulate_of m zon ist lst }
-{
-    if !limits::slots_within(ist, lst) {
-        return Accumulated {
-            refusal: limits::REFUSAL_SLOTS,
-            modes: m,
-        };
-    }
-    let from = ist - 1;
-    let added = held_count(&zon.hp, from, lst);
-    if !limits::count_within(m.nmmod, added) {
-        return Accumulated {
-            refusal: limits::REFUSAL_COUNT,
-            modes: m,
-        };
-    }
-    let modes = add_held(m, zon, from, lst);
-    Accumulated { refusal: 0, modes }
 }

@@ -9,8 +9,8 @@ use Rattle.angles.proofs.Near.{compared}
 use Rattle.angles.proofs.CosNear.{cos_plus_near, cos_minus_near}
 use Rattle.angles.proofs.Steps.{half_drops, least_drop, line_drops, line_drops_far, fall_unit}
 use Rattle.angles.proofs.BracketLaws.{Brackets, brackets}
-use Rattle.angles.proofs.LeastLaws.{Found, Falls, least_found, least_within, part_falls, guessed}
-use Rattle.angles.specs.Requires.{Part, Steep, Agrees}
+use Rattle.angles.proofs.LeastLaws.{Found, least_found, least_within, part_falls}
+use Rattle.angles.specs.Requires.{Falls, Part, Steep}
 use Rattle.angles.specs.Grid.{odd_half, half, in_steps, zero32, one32, within}
 use Rattle.angles.proofs.GridLaws.{half_near}
 use Rattle.angles.specs.Bound.{AtMost, AtLeast}
@@ -367,11 +367,6 @@ acos_steep true t j (h, l) = inr (top j l, (inr (far_part t (j - 1) (acos_slack 
 
     here : (j : ℕ) → j ≤ 13175442 → 69 + 5120 * (13176793 - j) ≤ 1280 * ((26353588 - odd_half j) + (26353588 - (odd_half j + 1)))
     here j l = omega arith
-
--- such a guess is the recipe's
-pub acos_guessed : (s : Bool) (t q j e : ℕ) → e ≤ 1 → Steep (acos_low s t) (acos_high s t) acos_top q j → Agrees (acos_low s t j) (acos_high s t j) q e → j + e ≡ acos_steps s t
-unfolding acos_steps above
-acos_guessed s t q j e E g a = guessed (acos_low s t) (acos_high s t) acos_top (acos_falls s t) q j e E g a
 
 -- ---- on f32
 pub acos_inside : (x : Float) → within one32 x ≡ true → in_steps false (acos_steps (lt x zero32) (scaled 57 x)) ≡ acos_of x

@@ -10,8 +10,8 @@ use Rattle.angles.specs.Series.{sin_up, sin_down, sin_den, sin_plus, sin_minus, 
 use Rattle.angles.proofs.Near.{plus_near, minus_near, compared}
 use Rattle.angles.proofs.Steps.{half_rises, least_half, line_rises, line_unit}
 use Rattle.angles.proofs.BracketLaws.{Brackets, brackets}
-use Rattle.angles.proofs.LeastLaws.{Found, Falls, least_found, least_within, unique, part_falls, guessed}
-use Rattle.angles.specs.Requires.{Part, Steep, Agrees}
+use Rattle.angles.proofs.LeastLaws.{Found, least_found, least_within, unique, part_falls}
+use Rattle.angles.specs.Requires.{Falls, Part, Steep}
 use Rattle.angles.specs.Grid.{odd_half, half, in_steps, zero32, one32, within}
 use Rattle.angles.proofs.GridLaws.{half_near}
 use Rattle.angles.specs.Bound.{AtMost, AtLeast}
@@ -316,11 +316,6 @@ asin_steep t j l = inr (top j l, (inr (weaker (j - 1) (slack (j - 1)) (slack j) 
 
     weaker : (k q r : ℕ) → r ≤ q → Part asin_low (asin_high t) q k → Part asin_low (asin_high t) r k
     weaker k q r m p = le_trans (add-le-add (le_refl (asin_low k + asin_high t (k + 1))) m) p
-
--- such a guess is the recipe's
-pub asin_guessed : (t q j e : ℕ) → e ≤ 1 → Steep asin_low (asin_high t) asin_top q j → Agrees (asin_low j) (asin_high t j) q e → j + e ≡ asin_steps t
-unfolding asin_steps below
-asin_guessed t q j e E s a = guessed asin_low (asin_high t) asin_top (asin_falls t) q j e E s a
 
 -- a tiny argument: the test fails at the first half step
 tiny_at : (t : ℕ) → t < 2 ^ 34 → t + sin_minus (half 0) < sin_plus (half 0) + 64

@@ -8,12 +8,11 @@ use Rattle.angles.proofs.Steps.{line_unit, line_rises, fall_unit, line_drops}
 use Rattle.angles.specs.Grid.{odd_half, half}
 use Rattle.angles.proofs.ArcsineLaws.{rises}
 use Rattle.angles.proofs.ArccosineLaws.{Falls-by, two_falls}
-use Rattle.angles.proofs.LeastLaws.{guessed}
-use Rattle.angles.specs.Requires.{Part, Steep, Agrees}
+use Rattle.angles.specs.Requires.{Part, Steep}
 use Rattle.angles.specs.Arctangent.{atan_low, atan_high, tan_below, atan_top, atan_steps}
 use Rattle.angles.proofs.TangentClimbs.{climbs}
 use Rattle.angles.proofs.ArctangentNear.{sine_side}
-use Rattle.angles.proofs.ArctangentLaws.{evaluated, atan_falls, found_is}
+use Rattle.angles.proofs.ArctangentLaws.{evaluated, found_is}
 
 -- ---- from one step to the next, the sine rises and the cosine falls by a line
 
@@ -181,11 +180,6 @@ steep t j T l = go (dec_le 64 (reach t j))
     go : Dec (64 ≤ reach t j) → Steep (atan_low t) (atan_high t) atan_top (slack t j) j
     go (yes r) = inr (l, (inr (parts t j (j - 1) T (before j l) (le_refl (j - 1)) (pred_le j) r), parts t j j T (here j l) (pred_le j) (le_refl j) r))
     go (no f) = inl (none (reach t j) f)
-
--- a guess that agrees with the one evaluation is the recipe's
-pub guessed_steps : (t q j e : ℕ) → t ≤ 2 ^ 63 → e ≤ 1 → Steep (atan_low t) (atan_high t) atan_top q j → Agrees (atan_low t j) (atan_high t j) q e → j + e ≡ atan_steps t
-unfolding tan_below atan_steps
-guessed_steps t q j e T E s a = guessed (atan_low t) (atan_high t) atan_top (atan_falls t T) q j e E s a
 
 -- ---- a tiny argument: the test fails at the first half step
 

@@ -9,7 +9,8 @@ use Rattle.angles.proofs.Near.{compared}
 use Rattle.angles.proofs.Steps.{cos_positive_half}
 use Rattle.angles.specs.Grid.{odd_half, zero32, in_steps}
 use Rattle.angles.proofs.BracketLaws.{Brackets, brackets}
-use Rattle.angles.proofs.LeastLaws.{Falls, Found, least_found, unique}
+use Rattle.angles.specs.Requires.{Falls}
+use Rattle.angles.proofs.LeastLaws.{Found, least_found, unique}
 use Rattle.angles.specs.Arctangent.{atan_low, atan_high, tan_below, atan_top, atan_steps, atan_units, atan_of}
 use Rattle.angles.proofs.TangentSteps.{bend}
 use Rattle.angles.proofs.TangentClimbs.{Climbs, unit, left, right, further, level, climbs_low, climbs_high, left_before, right_after, past_bend, greater}

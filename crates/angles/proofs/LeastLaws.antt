@@ -1,14 +1,10 @@
 -- Where a test that holds at k + 1 holds at k too, there is one place at which it holds before and fails: `least`. Whoever finds such a place, by halving or by a guess, has found
 -- it. Assumes nothing.
-use Rattle.std.proofs.Common.{◌≡◌, ℕ, zero, suc, ◌+◌, ◌-◌, ◌*◌, ◌/◌, ◌<◌, ◌≤◌, Bool, true, false, cond, leb, ◌⊎◌, sym, refl, ap, ◌∙◌, subst, inl, inr, ⊎_elim, true≢false, le_of_eq, le_refl, add-zero, zero-mul, arith, le-leb, leb-true}
+use Rattle.std.proofs.Common.{◌≡◌, ℕ, zero, suc, ◌+◌, ◌-◌, ◌*◌, ◌/◌, ◌<◌, ◌≤◌, Bool, true, false, cond, ◌⊎◌, sym, refl, ap, ◌∙◌, subst, inl, inr, ⊎_elim, true≢false, le_of_eq, le_refl, add-zero, zero-mul, arith, le-leb, leb-true}
 use native.Mathlib.Decide.{dec_le}
 use borrow.Author.Tests.{lt-leb}
 use Rattle.angles.specs.Least.{first, least}
-use Rattle.angles.specs.Requires.{Part, Steep, Agrees}
-
--- the test holds, or fails, up to one place and not beyond
-abbrev pub Falls : (ℕ → Bool) → ℕ → Type 0
-Falls p top = (k : ℕ) → k + 1 < top → p (k + 1) ≡ true → p k ≡ true
+use Rattle.angles.specs.Requires.{holds, Falls, Part, Steep, Agrees}
 
 -- ---- what is to be found
 pub record Found (p : ℕ → Bool) (top k : ℕ) : Type 0 where
@@ -122,10 +118,7 @@ between_none p top lo hi m h k =
     both : (lo hi : ℕ) → hi ≤ lo → lo ≤ hi → hi ≡ lo
     both lo hi h k = omega arith
 
--- ---- a guess: the test compares two sides, low k ≤ high k, and from each k to the next these part by a least amount
-abbrev pub holds : (low high : ℕ → ℕ) → ℕ → Bool
-holds low high k = leb (low k) (high k)
-
+-- ---- a guess: the test compares two sides, and from each k to the next these part by a least amount
 pub part_falls : (low high : ℕ → ℕ) (top : ℕ) → ((k : ℕ) → k + 1 < top → Part low high 0 k) → Falls (holds low high) top
 part_falls low high top f k h e = le-leb (low k) (high k) (shift (low k) (low (k + 1)) (high k) (high (k + 1)) (f k h) (leb-true (low (k + 1)) (high (k + 1)) e))
   where

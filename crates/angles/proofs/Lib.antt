@@ -26,7 +26,6 @@ pub mod TangentClimbs
 pub mod ArctangentNear
 pub mod ArctangentLaws
 pub mod ArctangentGuess
-pub mod ArcsLaws
 pub mod BoundLaws
 pub mod Columns
 pub mod Literals

@@ -6,7 +6,6 @@ pub mod Grid
 pub mod Arcsine
 pub mod Arccosine
 pub mod Arctangent
-pub mod Arcs
 pub mod SinCosAsked
 pub mod Bound
 pub mod Width

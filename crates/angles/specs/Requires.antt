@@ -1,8 +1,15 @@
 -- What private functions ask for and promise each other: nothing that a reader must believe.
-use Rattle.std.specs.Prelude.{◌≡◌, ℕ, ◌+◌, ◌-◌, ◌*◌, ◌/◌, ◌^◌, ◌<◌, ◌≤◌, ◌⊎◌, List, [], ◌∷◌}
+use Rattle.std.specs.Prelude.{◌≡◌, ℕ, ◌+◌, ◌-◌, ◌*◌, ◌/◌, ◌^◌, ◌<◌, ◌≤◌, ◌⊎◌, Bool, true, nat_le, List, [], ◌∷◌}
 use Rattle.angles.specs.Series.{mh}
 
--- ---- a guess: the test compares two sides, low k ≤ high k, and from each k to the next these part by a least amount
+-- ---- an arc's test: whether the sides are in order, low k ≤ high k. It holds, or fails, up to one place and not beyond
+abbrev pub holds : (low high : ℕ → ℕ) → ℕ → Bool
+holds low high k = nat_le (low k) (high k)
+
+abbrev pub Falls : (ℕ → Bool) → ℕ → Type 0
+Falls p top = (k : ℕ) → k + 1 < top → p (k + 1) ≡ true → p k ≡ true
+
+-- ---- a guess: from each k to the next the sides part by a least amount
 abbrev pub Part : (low high : ℕ → ℕ) → ℕ → ℕ → Type 0
 Part low high q k = low k + high (k + 1) + q ≤ low (k + 1) + high k
 

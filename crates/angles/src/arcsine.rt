@@ -1,26 +1,60 @@
 // The arcsine.
-ghost use Rattle.std.specs.Prelude.{◌≡◌, ◌+◌, ◌^◌, ◌≤◌, true, not, T, is_nan};
-ghost use Rattle.angles.specs.Arcsine.{asin_steps, asin_of};
+ghost use Rattle.std.specs.Prelude.{◌≡◌, ◌+◌, ◌^◌, ◌<◌, ◌≤◌, not, T, is_nan};
+ghost use Rattle.angles.specs.Arcsine.{asin_top, asin_low, asin_high, asin_steps, asin_of};
 
 use super::grid::in_steps;
 use super::guess::{in_256ths, magnitude, sine_arc};
 use super::scale::{is_within, scaled_by};
-use super::search::{Arc, agrees, search, short_sine_sides};
+use super::search;
+use super::search::{Arc, Check, HALF_STEP, Sides};
+use super::series::{Parts, short_sin_parts, sin_parts};
 
-// Whether the short sides at j, which lack at most 2^20, show that the arcsine of t * 2^-57 is j + e steps. Exact ones part by at least 5120 * (6588394 - j), from j - 1 to j + 1; past 6586998 no line says by how much.
-fn is_confirmed(j: u64, e: u64, t: u64) -> bool
-    requires fact_1 { e ≤ 1 }
-    requires fact_2 { t ≤ 2 ^ 57 }
-    ensures { result ≡ true → j + e ≡ asin_steps t }
+#[derive(Clone, Copy)]
+struct Sine;
+
+// The sine's sides, by its parts at the half step.
+fn sides_of(p: Parts, t: u64) -> Sides
+    requires { (p.plus ≤ 2 ^ 63) × ((p.minus ≤ 2 ^ 63) × (t ≤ 2 ^ 57)) }
+    ensures { (result.low ≡ p.plus + 64) × (result.high ≡ t + p.minus) }
 {
-    if j > 6586998 {
-        false
-    } else {
-        agrees(short_sine_sides(j, t), 1048576, 5120 * (6588394 - j), e)
+    Sides {
+        low: p.plus + 64,
+        high: t + p.minus,
     }
 }
 
-// The arcsine of t * 2^-57, in steps of 2^-22. The guess h, in 256ths of a step, says where to look first.
+impl Arc for Sine {
+    ghost top = { asin_top };
+
+    ghost largest = { 2 ^ 57 };
+
+    ghost low = { λ a t k. asin_low k };
+
+    ghost high = { λ a t k. asin_high t k };
+
+    fn top() -> u64 {
+        6588397
+    }
+
+    fn sides(self, k: u64, t: u64) -> Sides {
+        sides_of(sin_parts((2 * k + 1) * HALF_STEP), t)
+    }
+
+    // By the short evaluation: each side lacks at most 2^20. Exact ones part by at least 5120 * (6588394 - j), and past 6586998 no line says by how much.
+    fn check(self, j: u64, t: u64) -> Option<Check> {
+        if j > 6586998 {
+            None
+        } else {
+            Some(Check {
+                sides: sides_of(short_sin_parts((2 * j + 1) * HALF_STEP), t),
+                lack: 1048576,
+                slack: 5120 * (6588394 - j),
+            })
+        }
+    }
+}
+
+// The arcsine of t * 2^-57, in steps of 2^-22, by the guess h.
 fn steps(t: u64, h: u32) -> u64
     requires { t ≤ 2 ^ 57 }
     ensures { result ≡ asin_steps t }
@@ -28,16 +62,7 @@ fn steps(t: u64, h: u32) -> u64
     if t < 17179869184 {
         0
     } else {
-        let j = (h / 256) as u64;
-        let e = (h / 128 % 2) as u64;
-        if is_confirmed(j, e, t) {
-            j + e
-        } else if is_confirmed(j, 1 - e, t) {
-            // The guess was off by a little beside a half step.
-            j + (1 - e)
-        } else {
-            search(Arc::Sine, t)
-        }
+        search::steps(Sine, t, h)
     }
 }
 
@@ -47,7 +72,7 @@ fn guess(x: f32) -> u32
     in_256ths(sine_arc(magnitude(x)))
 }
 
-pub(crate) fn asin(x: f32) -> f32
+pub fn asin(x: f32) -> f32
     ensures { result ≡ asin_of x }
 {
     if is_within(x, 1.0) {

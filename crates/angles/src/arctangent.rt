@@ -1,13 +1,17 @@
 // The arctangent.
-ghost use Rattle.std.specs.Prelude.{◌≡◌, ◌-◌, ◌^◌, ◌≤◌, not, T, is_nan};
+ghost use Rattle.std.specs.Prelude.{◌≡◌, ◌^◌, ◌≤◌, not, T, is_nan};
 ghost use Rattle.angles.specs.Requires.{Steep};
 ghost use Rattle.angles.specs.Arctangent.{atan_top, atan_low, atan_high, atan_steps, atan_units, atan_of};
 
 use super::grid::in_steps;
 use super::guess::{QUARTER, in_256ths, magnitude, tangent_arc};
 use super::scale::{is_within, scaled_by};
-use super::search::{Arc, agrees, search, tangent_sides};
-use super::series::high_product;
+use super::search;
+use super::search::{Arc, Check, HALF_STEP, Sides};
+use super::series::{cos_parts, high_product, sin_parts};
+
+#[derive(Clone, Copy)]
+struct Tangent;
 
 // min(|x|, 2^23) * 2^40, cut.
 fn units(x: f32) -> u64
@@ -20,12 +24,6 @@ fn units(x: f32) -> u64
     }
 }
 
-fn minus(a: u64, b: u64) -> u64
-    ensures { result ≡ a - b }
-{
-    if b < a { a - b } else { 0 }
-}
-
 // What the test's sides part by at the least, from j - 1 to j + 1: by the sine's rise and by the cosine's fall, less what the evaluation can have lost; 0 where no line says it.
 fn slack(t: u64, j: u64) -> u64
     requires { t ≤ 2 ^ 63 }
@@ -34,13 +32,47 @@ fn slack(t: u64, j: u64) -> u64
     if j > 6588396 {
         0
     } else {
-        let rise = minus(6586998, j);
-        let fall = high_product(t, minus(j, 1) * 16777216);
-        minus(5120 * (rise + fall) / 16777216, 64)
+        let rise = 6586998u64.saturating_sub(j);
+        let fall = high_product(t, j.saturating_sub(1) * 16777216);
+        (5120 * (rise + fall) / 16777216).saturating_sub(64)
     }
 }
 
-// The arctangent of t * 2^-40, in steps of 2^-22. The guess h, in 256ths of a step, says where to look first.
+impl Arc for Tangent {
+    ghost top = { atan_top };
+
+    ghost largest = { 2 ^ 63 };
+
+    ghost low = { λ a t k. atan_low t k };
+
+    ghost high = { λ a t k. atan_high t k };
+
+    fn top() -> u64 {
+        6588397
+    }
+
+    fn sides(self, k: u64, t: u64) -> Sides {
+        let n = (2 * k + 1) * HALF_STEP;
+        let s = sin_parts(n);
+        let c = cos_parts(n);
+        let down = high_product(t, c.minus);
+        let up = high_product(t, c.plus);
+        Sides {
+            low: (s.plus >> 24) + down + 16,
+            high: up + (s.minus >> 24),
+        }
+    }
+
+    fn check(self, j: u64, t: u64) -> Option<Check> {
+        Some(Check {
+            sides: self.sides(j, t),
+            lack: 0,
+            slack: slack(t, j),
+        })
+    }
+}
+
+// The arctangent of t * 2^-40, in steps of 2^-22, by the guess h.
 fn steps(t: u64, h: u32) -> u64
     requires { t ≤ 2 ^ 63 }
     ensures { result ≡ atan_steps t }
@@ -48,18 +80,7 @@ fn steps(t: u64, h: u32) -> u64
     if t <= 131072 {
         0
     } else {
-        let j = (h / 256) as u64;
-        let e = (h / 128 % 2) as u64;
-        let s = tangent_sides(j, t);
-        let q = slack(t, j);
-        if agrees(s, 0, q, e) {
-            j + e
-        } else if agrees(s, 0, q, 1 - e) {
-            // The guess was off by a little beside a half step.
-            j + (1 - e)
-        } else {
-            search(Arc::Tangent, t)
-        }
+        search::steps(Tangent, t, h)
     }
 }
 
@@ -76,7 +97,7 @@ fn guess(x: f32) -> u32
     }
 }
 
-pub(crate) fn atan(x: f32) -> f32
+pub fn atan(x: f32) -> f32
     ensures { result ≡ atan_of x }
 {
     // NaN alone is not equal to itself.

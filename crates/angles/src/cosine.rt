@@ -6,7 +6,7 @@ use super::difference::difference_of;
 use super::scale::{is_within, scaled_by};
 use super::series::cos_parts;
 
-pub(crate) fn cos(x: f32) -> f32
+pub fn cos(x: f32) -> f32
     ensures { result ≡ cos_of x }
 {
     if is_within(x, 4.0) {

@@ -1,135 +1,87 @@
 // The arcs' tests, and the least step at which one fails: by halving, or by a guess that one evaluation confirms.
-ghost use Rattle.std.specs.Prelude.{◌≡◌, ℕ, ◌+◌, ◌^◌, ◌<◌, ◌≤◌, true};
+ghost use Rattle.std.specs.Prelude.{◌≡◌, ℕ, ◌+◌, ◌^◌, ◌<◌, ◌≤◌, true, IfSome};
 ghost use Rattle.angles.specs.Least.{least};
-ghost use Rattle.angles.specs.Requires.{Agrees};
-ghost use Rattle.angles.specs.Arcsine.{asin_top, asin_low, asin_high};
-ghost use Rattle.angles.specs.Requires.{Close, short_by};
-ghost use Rattle.angles.specs.Arccosine.{acos_low, acos_high};
-ghost use Rattle.angles.specs.Arctangent.{atan_low, atan_high};
-ghost use Rattle.angles.specs.Arcs.{top_of, holds_of, largest_of};
-
-use super::series::{Parts, cos_parts, high_product, short_sin_parts, sin_parts};
+ghost use Rattle.angles.specs.Requires.{Agrees, Close, Steep, Falls, holds};
 
 // Half a step, 2^-23, in units of 2^-61: the half step k is the angle (2k + 1) of them.
-const HALF_STEP: u64 = 274877906944;
-
-// Which arc: that of the sine, of the cosine at an argument not below 0 (false) or below it (true), or of the tangent.
-#[derive(Clone, Copy)]
-pub(crate) enum Arc {
-    Sine,
-    Cosine(bool),
-    Tangent,
-}
+pub(crate) const HALF_STEP: u64 = 274877906944;
 
 // The two sides of a test at one step: it holds where low <= high.
 #[derive(Clone, Copy)]
 pub(crate) struct Sides {
     pub(crate) low: u64,
     pub(crate) high: u64,
+    ghost high_bound: { high ≤ 2 ^ 63 + 2 ^ 62 },
 }
 
-// The sine's sides, by its parts at the half step.
-fn sine_sides_of(p: Parts, t: u64) -> Sides
-    requires { (p.plus ≤ 2 ^ 63) × ((p.minus ≤ 2 ^ 63) × (t ≤ 2 ^ 57)) }
-    ensures { ((result.low ≡ p.plus + 64) × (result.high ≡ t + p.minus)) × (result.high ≤ 2 ^ 63 + 2 ^ 62) }
-{
-    Sides {
-        low: p.plus + 64,
-        high: t + p.minus,
-    }
+// What a guess is checked by: the sides at its step, each of which may lack up to `lack` of the exact one, and what exact ones part by at the least, from the step before to the one after; 0 where no line says it.
+#[derive(Clone, Copy)]
+pub(crate) struct Check {
+    pub(crate) sides: Sides,
+    pub(crate) lack: u64,
+    pub(crate) slack: u64,
+    ghost lack_bound: { lack ≤ 2 ^ 60 },
+    ghost slack_bound: { slack ≤ 2 ^ 60 },
 }
 
-fn sine_sides(k: u64, t: u64) -> Sides
-    requires { (k < 2 ^ 24) × (t ≤ 2 ^ 57) }
-    ensures { (result.low ≡ asin_low k) × (result.high ≡ asin_high t k) }
-{
-    sine_sides_of(sin_parts((2 * k + 1) * HALF_STEP), t)
+// An arc's test, at each argument t: it holds up to one step of the grid, and fails from there on.
+pub(crate) trait Arc: Copy {
+    // The last step, the largest argument, and the sides at t and k.
+    ghost top: { ℕ };
+
+    ghost largest: { ℕ };
+
+    ghost low: { Self → ℕ → ℕ → ℕ };
+
+    ghost high: { Self → ℕ → ℕ → ℕ };
+
+    fn top() -> u64
+        ensures value { result ≡ top }
+        ensures bound { result ≤ 13176794 };
+
+    fn sides(self, k: u64, t: u64) -> Sides
+        requires step { k < 2 ^ 24 }
+        requires argument { t ≤ largest }
+        ensures low { result.low ≡ low self t k }
+        ensures high { result.high ≡ high self t k };
+
+    // None where no line says how steep the sides are.
+    fn check(self, j: u64, t: u64) -> Option<Check>
+        requires step { j < 2 ^ 24 }
+        requires argument { t ≤ largest }
+        ensures low { IfSome result (λ c. Close c.sides.low (low self t j) c.lack) }
+        ensures high { IfSome result (λ c. Close c.sides.high (high self t j) c.lack) }
+        ensures steep { IfSome result (λ c. Steep (low self t) (high self t) top c.slack j) };
 }
 
-// The same by the short evaluation: each side lacks at most 2^20.
-pub(crate) fn short_sine_sides(k: u64, t: u64) -> Sides
-    requires { (k ≤ asin_top) × (t ≤ 2 ^ 57) }
-    ensures { (Close result.low (asin_low k) short_by × Close result.high (asin_high t k) short_by) × (result.high ≤ 2 ^ 63 + 2 ^ 62) }
-{
-    sine_sides_of(short_sin_parts((2 * k + 1) * HALF_STEP), t)
-}
-
-pub(crate) fn cosine_sides(neg: bool, k: u64, t: u64) -> Sides
-    requires fact_1 { k < 2 ^ 24 }
-    requires fact_2 { t ≤ 2 ^ 57 }
-    ensures { ((result.low ≡ acos_low neg t k) × (result.high ≡ acos_high neg t k)) × (result.high ≤ 2 ^ 63 + 2 ^ 62) }
-{
-    let p = cos_parts((2 * k + 1) * HALF_STEP);
-    if neg {
-        Sides {
-            low: p.minus + 64,
-            high: p.plus + t,
+impl Check {
+    // Whether the sides are as a guess says, by no more than the slack: the test fails there (e is 0), or holds (e is 1).
+    fn agrees(self, e: u64) -> bool
+        requires { e ≤ 1 }
+        ensures { result ≡ true → (low high : ℕ) → Close self.sides.low low self.lack → Close self.sides.high high self.lack → Agrees low high self.slack e }
+    {
+        let far = self.sides.high + self.slack * (1 - e);
+        if self.sides.low <= far {
+            let d = far - self.sides.low;
+            self.lack <= d && d + self.lack < self.slack
+        } else {
+            false
         }
-    } else {
-        Sides {
-            low: t + 65 + p.minus,
-            high: p.plus,
-        }
-    }
-}
-
-pub(crate) fn tangent_sides(k: u64, t: u64) -> Sides
-    requires fact_1 { k < 2 ^ 24 }
-    requires fact_2 { t ≤ 2 ^ 63 }
-    ensures { ((result.low ≡ atan_low t k) × (result.high ≡ atan_high t k)) × (result.high ≤ 2 ^ 63 + 2 ^ 62) }
-{
-    let n = (2 * k + 1) * HALF_STEP;
-    let s = sin_parts(n);
-    let c = cos_parts(n);
-    let down = high_product(t, c.minus);
-    let up = high_product(t, c.plus);
-    Sides {
-        low: (s.plus >> 24) + down + 16,
-        high: up + (s.minus >> 24),
-    }
-}
-
-fn holds(arc: Arc, k: u64, t: u64) -> bool
-    requires fact_1 { k < 2 ^ 24 }
-    requires fact_2 { t ≤ largest_of arc }
-    ensures { result ≡ holds_of arc t k }
-{
-    match arc {
-        Arc::Sine => {
-            let s = sine_sides(k, t);
-            s.low <= s.high
-        }
-        Arc::Cosine(neg) => {
-            let s = cosine_sides(neg, k, t);
-            s.low <= s.high
-        }
-        Arc::Tangent => {
-            let s = tangent_sides(k, t);
-            s.low <= s.high
-        }
-    }
-}
-
-fn top(arc: Arc) -> u64
-    ensures { result ≡ top_of arc }
-{
-    match arc {
-        Arc::Sine => 6588397,
-        Arc::Cosine(_) => 13176794,
-        Arc::Tangent => 6588397,
     }
 }
 
 // The arc of t, in steps of 2^-22, by halving.
-pub(crate) fn search(arc: Arc, t: u64) -> u64
-    requires { t ≤ largest_of arc }
-    ensures { result ≡ least (holds_of arc t) (top_of arc) }
+fn search<A: Arc>(arc: A, t: u64) -> u64
+    requires argument { t ≤ A.largest }
+    requires falls { Falls (holds (A.low arc t) (A.high arc t)) A.top }
+    ensures { result ≡ least (holds (A.low arc t) (A.high arc t)) A.top }
 {
     let mut lo = 0u64;
-    let mut hi = top(arc);
+    let mut hi = A::top();
     while lo < hi {
         let mid = (lo + hi) / 2;
-        if holds(arc, mid, t) {
+        let s = arc.sides(mid, t);
+        if s.low <= s.high {
             lo = mid + 1;
         } else {
             hi = mid;
@@ -138,19 +90,22 @@ pub(crate) fn search(arc: Arc, t: u64) -> u64
     lo
 }
 
-// Whether the sides at a step are as a guess says, by no more than q: the test fails there (e is 0), or holds (e is 1). Each may lack up to m of the exact side.
-pub(crate) fn agrees(s: Sides, m: u64, q: u64, e: u64) -> bool
-    requires fact_1 { s.high ≤ 2 ^ 63 + 2 ^ 62 }
-    requires fact_2 { m ≤ 2 ^ 60 }
-    requires fact_3 { q ≤ 2 ^ 60 }
-    requires fact_4 { e ≤ 1 }
-    ensures { result ≡ true → (low high : ℕ) → Close s.low low m → Close s.high high m → Agrees low high q e }
+// The same, where the guess h, in 256ths of a step, says where to look first.
+pub(crate) fn steps<A: Arc>(arc: A, t: u64, h: u32) -> u64
+    requires argument { t ≤ A.largest }
+    requires falls { Falls (holds (A.low arc t) (A.high arc t)) A.top }
+    ensures { result ≡ least (holds (A.low arc t) (A.high arc t)) A.top }
 {
-    let far = s.high + q * (1 - e);
-    if s.low <= far {
-        let d = far - s.low;
-        m <= d && d + m < q
-    } else {
-        false
+    let j = (h / 256) as u64;
+    let e = (h / 128 % 2) as u64;
+    if let Some(c) = arc.check(j, t) {
+        if c.agrees(e) {
+            return j + e;
+        }
+        if c.agrees(1 - e) {
+            // The guess was off by a little beside a half step.
+            return j + (1 - e);
+        }
     }
+    search(arc, t)
 }

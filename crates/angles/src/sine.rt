@@ -6,7 +6,7 @@ use super::difference::difference_of;
 use super::scale::{is_within, scaled_by};
 use super::series::sin_parts;
 
-pub(crate) fn sin(x: f32) -> f32
+pub fn sin(x: f32) -> f32
     ensures { result ≡ sin_of x }
 {
     if is_within(x, 4.0) {

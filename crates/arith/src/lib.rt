@@ -29,7 +29,7 @@ pub fn abs(x: f32) -> f32
     }
 }
 
-// a.min(b)
+// a.min(b). Std's leaves open which of two zeros it gives, and the definition does not; so does its max.
 pub fn min(a: f32, b: f32) -> f32
     ensures { result ≡ min_of a b }
 {

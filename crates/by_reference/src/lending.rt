@@ -5,7 +5,7 @@ ghost use Rattle.findf.specs.Findf.{findf_of};
 ghost use Rattle.fdist.specs.Fdist.{fdist_of};
 
 use fdist::{HopModes, Searched};
-use findf::{Reflectrix, Walked};
+use findf::{Reflectrix, Tables, Walked};
 
 pub fn findf(
     rfx: Reflectrix,
@@ -14,18 +14,12 @@ pub fn findf(
     freq: f32,
     amind: f32,
     fi: [[f32; 3]; 5],
-    fvert: [f32; 30],
-    hprim: [f32; 30],
-    htrue: [f32; 30],
-    afac: [f32; 30],
-    ifob: [i32; 1200],
+    tables: Tables,
 ) -> Walked
-    ensures { result ≡ findf_of rfx (job_by k nang freq amind fi fvert hprim htrue afac ifob) }
+    ensures { result ≡ findf_of rfx (job_by k nang freq amind fi tables) }
 {
     let mut lent = rfx;
-    let r = super::findf(
-        &mut lent, k, nang, freq, amind, fi, fvert, hprim, htrue, afac, ifob,
-    );
+    let r = super::findf(&mut lent, k, nang, freq, amind, fi, tables);
     Walked {
         refusal: r.refusal,
         looks: r.looks,

@@ -8,7 +8,7 @@ ghost use Rattle.fdist.specs.Fdist.{fdist_of};
 ghost use Rattle.by_reference.specs.ByReference.{walked_with, searched_with};
 
 use fdist::HopModes;
-use findf::Reflectrix;
+use findf::{Reflectrix, Tables};
 
 pub mod lending;
 
@@ -34,17 +34,11 @@ pub fn findf(
     freq: f32,
     amind: f32,
     fi: [[f32; 3]; 5],
-    fvert: [f32; 30],
-    hprim: [f32; 30],
-    htrue: [f32; 30],
-    afac: [f32; 30],
-    ifob: [i32; 1200],
+    tables: Tables,
 ) -> FindfResult
-    ensures { walked_with result rfx.new ≡ findf_of rfx.old (job_by k nang freq amind fi fvert hprim htrue afac ifob) }
+    ensures { walked_with result rfx.new ≡ findf_of rfx.old (job_by k nang freq amind fi tables) }
 {
-    let w = findf::findf(
-        *rfx, k, nang, freq, amind, fi, fvert, hprim, htrue, afac, ifob,
-    );
+    let w = findf::findf(*rfx, k, nang, freq, amind, fi, tables);
     *rfx = w.rfx;
     FindfResult {
         refusal: w.refusal,

@@ -4,7 +4,7 @@
 mod say;
 
 use fdist::{HopModes, Searched};
-use findf::{Reflectrix, Walked};
+use findf::{Reflectrix, Tables, Walked};
 use std::io;
 
 // No number is 0. The first hop lengths lie below the asked one, at it, above it and below it again.
@@ -16,10 +16,10 @@ fn used_reflectrix() -> Reflectrix {
     let mut delfx = [10.0; 45];
     delfx[2] = 12.0;
     Reflectrix {
-        delfx: delfx,
+        delfx,
         hpflx: [300.0; 45],
         htflx: [150.0; 45],
-        gdflx: gdflx,
+        gdflx,
         fvflx: [4.5; 45],
         afflx: [0.25; 45],
         imode: [7; 45],
@@ -48,85 +48,64 @@ fn used_slots() -> HopModes {
     }
 }
 
-fn reflectrix(rt: &impl Print, r: Reflectrix) -> io::Result<()> {
-    let delfx = r.delfx;
-    let hpflx = r.hpflx;
-    let htflx = r.htflx;
-    let gdflx = r.gdflx;
-    let fvflx = r.fvflx;
-    let afflx = r.afflx;
-    let imode = r.imode;
-    let kind = r.kind;
-    let delpen = r.delpen;
-    say::column(rt, "delfx", delfx)?;
-    say::column(rt, "hpflx", hpflx)?;
-    say::column(rt, "htflx", htflx)?;
-    say::column(rt, "gdflx", gdflx)?;
-    say::column(rt, "fvflx", fvflx)?;
-    say::column(rt, "afflx", afflx)?;
-    say::layers(rt, "imode", imode)?;
-    say::layers(rt, "kind", kind)?;
-    say::float(rt, "dskpkm", r.dskpkm)?;
-    say::float(rt, "delskp", r.delskp)?;
-    say::float(rt, "hpskp", r.hpskp)?;
-    say::float(rt, "htskp", r.htskp)?;
-    say::float(rt, "dmaxkm", r.dmaxkm)?;
-    say::float(rt, "fvskp", r.fvskp)?;
-    say::number(rt, "iskp", r.iskp)?;
-    say::three(rt, "delpen", delpen)?;
+fn reflectrix(rt: &impl Print, r: &Reflectrix) -> io::Result<()> {
+    say::floats(rt, "delfx", &r.delfx)?;
+    say::floats(rt, "hpflx", &r.hpflx)?;
+    say::floats(rt, "htflx", &r.htflx)?;
+    say::floats(rt, "gdflx", &r.gdflx)?;
+    say::floats(rt, "fvflx", &r.fvflx)?;
+    say::floats(rt, "afflx", &r.afflx)?;
+    say::numbers(rt, "imode", &r.imode)?;
+    say::numbers(rt, "kind", &r.kind)?;
+    say::floats(rt, "dskpkm", &[r.dskpkm])?;
+    say::floats(rt, "delskp", &[r.delskp])?;
+    say::floats(rt, "hpskp", &[r.hpskp])?;
+    say::floats(rt, "htskp", &[r.htskp])?;
+    say::floats(rt, "dmaxkm", &[r.dmaxkm])?;
+    say::floats(rt, "fvskp", &[r.fvskp])?;
+    say::numbers(rt, "iskp", &[r.iskp])?;
+    say::floats(rt, "delpen", &r.delpen)?;
     say::count(rt, "iaftxr", r.iaftxr)?;
     say::count(rt, "rows_this_call", r.rows_this_call)
 }
 
-fn slots(rt: &impl Print, m: HopModes) -> io::Result<()> {
-    let delmod = m.delmod;
-    let hpmod = m.hpmod;
-    let htmod = m.htmod;
-    let fvmod = m.fvmod;
-    let itmod = m.itmod;
-    let afmod = m.afmod;
-    say::six(rt, "delmod", delmod)?;
-    say::six(rt, "hpmod", hpmod)?;
-    say::six(rt, "htmod", htmod)?;
-    say::six(rt, "fvmod", fvmod)?;
-    say::six_layers(rt, "itmod", itmod)?;
-    say::six(rt, "afmod", afmod)
+fn slots(rt: &impl Print, m: &HopModes) -> io::Result<()> {
+    say::floats(rt, "delmod", &m.delmod)?;
+    say::floats(rt, "hpmod", &m.hpmod)?;
+    say::floats(rt, "htmod", &m.htmod)?;
+    say::floats(rt, "fvmod", &m.fvmod)?;
+    say::numbers(rt, "itmod", &m.itmod)?;
+    say::floats(rt, "afmod", &m.afmod)
 }
 
-fn walked(rt: &impl Print, title: &str, w: Walked) -> io::Result<()> {
-    say::text(rt, title)?;
-    say::number(rt, "refusal", w.refusal)?;
-    say::number(rt, "looks", w.looks)?;
-    let rfx = w.rfx;
-    reflectrix(rt, rfx)
+fn walked(rt: &impl Print, title: &str, w: &Walked) -> io::Result<()> {
+    println!(rt; "{title}")?;
+    say::numbers(rt, "refusal", &[w.refusal])?;
+    say::numbers(rt, "looks", &[w.looks])?;
+    reflectrix(rt, &w.rfx)
 }
 
-fn searched(rt: &impl Print, title: &str, s: Searched) -> io::Result<()> {
-    say::text(rt, title)?;
-    say::number(rt, "refusal", s.refusal)?;
-    say::number(rt, "pairs", s.pairs)?;
-    say::number(rt, "rays", s.rays)?;
-    let m = s.m;
-    slots(rt, m)
+fn searched(rt: &impl Print, title: &str, s: &Searched) -> io::Result<()> {
+    println!(rt; "{title}")?;
+    say::numbers(rt, "refusal", &[s.refusal])?;
+    say::numbers(rt, "pairs", &[s.pairs])?;
+    say::numbers(rt, "rays", &[s.rays])?;
+    slots(rt, &s.m)
 }
 
 // A walk over layers E and F2 at 5 MHz, of nang angles.
 fn walk(nang: usize) -> Walked {
-    let mut fvert = [7.0f32; 30];
+    let mut fvert = [7.0; 30];
     fvert[9] = 3.0;
-    by_reference::lending::findf(
-        used_reflectrix(),
-        2,
-        nang,
-        5.0,
-        3.0,
-        [[4.0, 0.0, 7.0]; 5],
+    let tables = Tables {
         fvert,
-        [300.0; 30],
-        [190.0; 30],
-        [0.5; 30],
-        [6000; 1200],
-    )
+        hprim: [300.0; 30],
+        htrue: [190.0; 30],
+        afac: [0.5; 30],
+        ifob: [6000; 1200],
+    };
+    let fi = [[4.0, 0.0, 7.0]; 5];
+    by_reference::lending::findf(used_reflectrix(), 2, nang, 5.0, 3.0, fi, tables)
 }
 
 fn search(ghop: f32) -> Searched {
@@ -134,8 +113,8 @@ fn search(ghop: f32) -> Searched {
 }
 
 fn main(rt: HostRuntime) -> io::Result<()> {
-    walked(&rt, "findf, nang 30\n", walk(30))?;
-    walked(&rt, "findf, nang 41\n", walk(41))?;
-    searched(&rt, "fdist, ghop 0.5\n", search(0.5))?;
-    searched(&rt, "fdist, ghop 5\n", search(5.0))
+    walked(&rt, "findf, nang 30", &walk(30))?;
+    walked(&rt, "findf, nang 41", &walk(41))?;
+    searched(&rt, "fdist, ghop 0.5", &search(0.5))?;
+    searched(&rt, "fdist, ghop 5", &search(5.0))
 }

@@ -4,5 +4,5 @@
 mod ask;
 mod line;
 
-pub use ask::{Pair, pair_of, put, twice};
-pub use line::{Verb, count, is, verb_of, word};
+pub use ask::{Change, PairError, pair_of, put, twice};
+pub use line::{Verb, count, verb_of, word};

@@ -3,12 +3,13 @@ use Rattle.std.specs.Prelude.{ℕ, ◌+◌, Bool, false, cond, ◌&&◌, List, e
 use Prim.Native.String.{String}
 use Rattle.arith.specs.Floats.{◌⊗◌, RZ}
 use Rattle.words.specs.Lists.{tab}
+use Rattle.findf.specs.declared.Reflectrix.{Reflectrix}
 use Rattle.fdist.specs.declared.Searched.{Searched}
 use Rattle.fdist.specs.Pairs.{pair_of, is_spot}
-use Rattle.fdist.specs.Fdist.{rows_by, fdist_by}
+use Rattle.fdist.specs.Fdist.{fdist_of}
 use Rattle.job.specs.Parts.{number_at, numbers_at}
 use Rattle.job.specs.Answer.{column_rows}
-use Rattle.job.specs.Solved.{no_slots}
+use Rattle.job.specs.Solved.{all_zero, no_slots}
 use Rattle.view.specs.View.{of_job, of_answer, slot_of, is_ray, row_kind_of, is_cusp, is_after_cusp}
 
 -- a column of an answer's numbers; the rows' own numbers
@@ -18,15 +19,23 @@ column_of answer name = numbers_at answer (of_answer name) column_rows
 unfoldable pub row_numbers : List ℕ
 row_numbers = tab column_rows (λ i. i)
 
--- the job's search over the answer's columns, with the rows' numbers for their layers
+-- what a search reads of the answer, with the rows' numbers for their layers
+abbrev pub numbered_rows : List ℕ → Reflectrix
+numbered_rows answer =
+    record all_zero {
+      delfx = column_of answer "delfx";
+      hpflx = column_of answer "hpflx";
+      htflx = column_of answer "htflx";
+      gdflx = column_of answer "gdflx";
+      fvflx = column_of answer "fvflx";
+      afflx = column_of answer "afflx";
+      imode = row_numbers;
+      dmaxkm = number_at answer (of_answer "dmaxkm");
+    }
+
+-- the job's search over them
 unfoldable pub numbered_of : List ℕ → List ℕ → Searched
-numbered_of job answer =
-    fdist_by no_slots
-    (rows_by (column_of answer "delfx") (column_of answer "hpflx") (column_of answer "htflx") (column_of answer "gdflx") (column_of answer "fvflx") (column_of answer "afflx") row_numbers)
-    (number_at answer (of_answer "dmaxkm"))
-    (number_at job (of_job "ghop"))
-    (number_at job (of_job "amind"))
-    (number_at job (of_job "freq"))
+numbered_of job answer = fdist_of no_slots (numbered_rows answer) (number_at job (of_job "ghop")) (number_at job (of_job "amind")) (number_at job (of_job "freq"))
 
 -- the layer of a ray is that of its pair's first row, or of the row that it is: here that row's number
 unfoldable pub first_row_of : List ℕ → List ℕ → ℕ → ℕ

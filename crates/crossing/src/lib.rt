@@ -5,10 +5,13 @@
 ghost use Rattle.std.specs.Prelude.{◌≡◌, ◌≤◌, ◌<◌};
 ghost use Rattle.job.specs.Parts.{number_at, numbers_at};
 ghost use Rattle.job.specs.Answer.{column_rows};
-ghost use Rattle.crossing.specs.Crossing.{row_numbers, numbered_of, first_row_of, spot_at, crossed_at, across_cusp};
+ghost use Rattle.crossing.specs.Crossing.{row_numbers, numbered_rows, numbered_of, first_row_of, spot_at, crossed_at, across_cusp};
 
 use fdist::Searched;
+use findf::Reflectrix;
 use job::layout;
+use std::array;
+use view::View;
 
 fn number(bytes: &[u8], at: usize) -> f32
     ensures { result ≡ number_at bytes.now at }
@@ -21,96 +24,89 @@ fn column(answer: &[u8], at: usize) -> [f32; 45]
     requires { at ≤ 1000 }
     ensures { result ≡ numbers_at answer.now at column_rows }
 {
-    let mut out = [0.0f32; 45];
-    let mut i = 0usize;
-    while i < layout::COLUMN_ROWS {
-        out[i] = number(answer, at + i);
-        i += 1;
-    }
-    out
+    words::array_at(answer, 4 * at)
 }
 
 fn row_numbers() -> [u32; 45]
     ensures { result ≡ row_numbers }
 {
-    let mut out = [0u32; 45];
-    let mut i = 0usize;
-    while i < layout::COLUMN_ROWS {
-        out[i] = i as u32;
-        i += 1;
-    }
-    out
+    array::from_fn(
+        |i|
+            requires { i < column_rows }
+            ensures { result ≡ i }
+        { i as u32 },
+    )
 }
 
-// The search with the rows' numbers for their layers.
-fn numbered(job: &[u8], answer: &[u8]) -> Searched
-    ensures { result ≡ numbered_of job.now answer.now }
+// What a search reads of the answer, with the rows' numbers for their layers.
+fn numbered_rows(answer: &[u8]) -> Reflectrix
+    ensures { result ≡ numbered_rows answer.now }
 {
-    let delfx = column(answer, layout::DELFX);
-    let hpflx = column(answer, layout::HPFLX);
-    let htflx = column(answer, layout::HTFLX);
-    let gdflx = column(answer, layout::GDFLX);
-    let fvflx = column(answer, layout::FVFLX);
-    let afflx = column(answer, layout::AFFLX);
-    let numbers = row_numbers();
+    Reflectrix {
+        delfx: column(answer, layout::DELFX),
+        hpflx: column(answer, layout::HPFLX),
+        htflx: column(answer, layout::HTFLX),
+        gdflx: column(answer, layout::GDFLX),
+        fvflx: column(answer, layout::FVFLX),
+        afflx: column(answer, layout::AFFLX),
+        imode: row_numbers(),
+        dmaxkm: number(answer, layout::DMAXKM),
+        ..job::all_zero()
+    }
+}
+
+// The search over them.
+fn numbered(view: View) -> Searched
+    ensures { result ≡ numbered_of view.entry.job.now view.entry.answer.now }
+{
+    let rfx = numbered_rows(view.answer);
     fdist::fdist_over(
         job::no_slots(),
-        &delfx,
-        &hpflx,
-        &htflx,
-        &gdflx,
-        &fvflx,
-        &afflx,
-        &numbers,
-        number(answer, layout::DMAXKM),
-        number(job, view::GHOP),
-        number(job, view::AMIND),
-        number(job, view::FREQ),
+        &rfx,
+        number(view.job, view::GHOP),
+        number(view.job, view::AMIND),
+        number(view.job, view::FREQ),
     )
 }
 
 // The row that the ray of slot s begins at.
-fn first_row(job: &[u8], answer: &[u8], s: usize) -> usize
+fn first_row(view: View, s: usize) -> usize
     requires { s < 6 }
-    ensures { result ≡ first_row_of job.now answer.now s }
+    ensures { result ≡ first_row_of view.entry.job.now view.entry.answer.now s }
 {
-    let found = numbered(job, answer);
-    let slots = found.m;
-    let rows = slots.itmod;
-    rows[s] as usize
+    numbered(view).m.itmod[s] as usize
 }
 
 // Whether rows i and i + 1 give a spot between them.
-fn spot(job: &[u8], answer: &[u8], i: usize) -> bool
+fn spot(view: View, i: usize) -> bool
     requires { i < column_rows }
-    ensures { result ≡ spot_at job.now answer.now i }
+    ensures { result ≡ spot_at view.entry.job.now view.entry.answer.now i }
 {
     fdist::gives_spot(
-        number(answer, layout::GDFLX + i),
-        number(answer, layout::GDFLX + (i + 1)),
-        number(job, view::GHOP) * arith::RZ,
+        number(view.answer, layout::GDFLX + i),
+        number(view.answer, layout::GDFLX + (i + 1)),
+        number(view.job, view::GHOP) * arith::RZ,
     )
 }
 
 // Whether row i is a cusp, row i + 1 the row after it, and the two give a spot.
-fn crossed(job: &[u8], answer: &[u8], i: usize) -> bool
-    ensures { result ≡ crossed_at job.now answer.now i }
+fn crossed(view: View, i: usize) -> bool
+    ensures { result ≡ crossed_at view.entry.job.now view.entry.answer.now i }
 {
     if i < layout::COLUMN_ROWS {
-        return view::is_cusp(view::row_kind(answer, i))
-            & view::is_after_cusp(view::row_kind(answer, i + 1))
-            & spot(job, answer, i);
+        return view.is_cusp(i) & view.is_after_cusp(i + 1) & spot(view, i);
     }
     false
 }
 
 // Whether slot s, counted from 0, is a ray across a cusp.
-pub fn across_cusp(job: &[u8], answer: &[u8], s: usize) -> bool
-    ensures { result ≡ across_cusp job.now answer.now s }
+pub fn across_cusp(view: View, s: usize) -> bool
+    ensures { result ≡ across_cusp view.entry.job.now view.entry.answer.now s }
 {
-    if view::is_ray(view::slot(job, answer, s)) == 1 {
+    let ray = view.is_ray(s);
+    if ray {
         if s < layout::SLOTS {
-            return crossed(job, answer, first_row(job, answer, s));
+            return crossed(view, first_row(view, s));
         }
     }
     false

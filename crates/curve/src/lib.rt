@@ -1,209 +1,178 @@
 // The rows of a reflectrix as a drawn curve, in SVG: a line for each layer, a dashed one where the layer changes, a mark for each row.
-#![tactic(auto)]
+#![tactic(auto, using(decimal::proofs::PageLaws::extends))]
 
-ghost use Rattle.std.specs.Prelude.{◌≤◌, ◌<◌, length};
+ghost use Rattle.decimal.specs.Page.{Extends};
 
-use decimal::{filled, text};
+use decimal::Page;
 use job::layout;
+use view::View;
 
 mod row;
 
-pub use row::{Kind, count, farthest, highest, in_tenths, in_thousandths, is_number, rows};
-use row::{angle, below, drawn, hop, layer};
+use row::Row;
+pub use row::{
+    count_below, count_of_layer, count_without_length, farthest, highest, in_tenths,
+    in_thousandths, is_number,
+};
+
+// Where the axes end: in 0.1 km and in 0.001 deg.
+#[derive(Clone, Copy)]
+pub struct Ends {
+    pub across: u32,
+    pub up: u32,
+}
 
 // The places of a row.
-fn places(answer: &[u8], r: usize, across: u32, up: u32) -> [u32; 2]
-    requires { r < 45 }
-{
+fn places(row: Row, ends: Ends) -> [u32; 2] {
     [
-        scale::ax(hop(answer, r), across),
-        scale::ay(angle(answer, r), up),
+        scale::ax(row.hop(), ends.across),
+        scale::ay(row.angle(), ends.up),
     ]
 }
 
-// Whether the line of one layer goes on from row r - 1 to row r.
-fn joined(answer: &[u8], r: usize) -> bool {
-    if r == 0 {
-        return false;
-    }
-    if r < layout::COLUMN_ROWS {
-        return drawn(answer, r - 1) & drawn(answer, r) & (layer(answer, r - 1) == layer(answer, r));
-    }
-    false
+// The row before it.
+fn previous(row: Row) -> Option<Row> {
+    let r = row.r.checked_sub(1)?;
+    Some(Row { view: row.view, r })
 }
 
-// Whether another layer begins at row r.
-fn jumps(answer: &[u8], r: usize) -> bool {
-    if r == 0 {
-        return false;
+// The row after it.
+fn next(row: Row) -> Option<Row> {
+    if row.r < layout::COLUMN_ROWS - 1 {
+        return Some(Row {
+            view: row.view,
+            r: row.r + 1,
+        });
     }
-    if r < layout::COLUMN_ROWS {
-        return drawn(answer, r - 1) & drawn(answer, r) & (layer(answer, r - 1) != layer(answer, r));
-    }
-    false
+    None
 }
 
-fn colour(layer: u32, out: &mut [u8], at: usize) -> usize
-    ensures { result ≤ length out.old }
+// Whether the line of one layer goes on from a row to the next.
+fn joined(from: Row, to: Row) -> bool {
+    from.drawn() && to.drawn() && from.layer() == to.layer()
+}
+
+// Whether another layer begins there.
+fn jumps(from: Row, to: Row) -> bool {
+    from.drawn() && to.drawn() && from.layer() != to.layer()
+}
+
+fn colour(layer: u32, page: &mut Page)
+    ensures { Extends page.old page.new }
 {
-    if layer == 1 {
-        return text(out, at, b"#c04a00");
+    match layer {
+        1 => page.text(b"#c04a00"),
+        2 => page.text(b"#00805a"),
+        _ => page.text(b"#0060a8"),
     }
-    if layer == 2 {
-        return text(out, at, b"#00805a");
-    }
-    text(out, at, b"#0060a8")
 }
 
 // The end of a layer's line.
-fn stroke(layer: u32, out: &mut [u8], at: usize) -> usize
-    ensures { result ≤ length out.old }
+fn stroke(layer: u32, page: &mut Page)
+    ensures { Extends page.old page.new }
 {
-    let a = text(out, at, b"\" stroke=\"");
-    let b = colour(layer, out, a);
-    text(out, b, b"\"/>\n")
+    page.text(b"\" stroke=\"");
+    colour(layer, page);
+    page.text(b"\"/>\n");
 }
 
-// Row r's part of its layer's line.
-fn line(answer: &[u8], r: usize, across: u32, up: u32, out: &mut [u8], at: usize) -> usize
-    requires { r < 45 }
+// A row's part of its layer's line.
+fn line(row: Row, ends: Ends, page: &mut Page)
+    ensures { Extends page.old page.new }
 {
-    let v = places(answer, r, across, up);
-    if joined(answer, r) {
-        let a = filled(b"L@At0 @Bt0", &v, out, at);
-        if joined(answer, r + 1) {
-            return a;
+    let v = places(row, ends);
+    let goes_on = next(row).is_some_and(|to| joined(row, to));
+    if previous(row).is_some_and(|from| joined(from, row)) {
+        page.filled(b"L@At0 @Bt0", &v);
+        if !goes_on {
+            stroke(row.layer(), page);
         }
-        return stroke(layer(answer, r), out, a);
+    } else if goes_on {
+        page.filled(b"<path d=\"M@At0 @Bt0", &v);
     }
-    if joined(answer, r + 1) {
-        return filled(b"<path d=\"M@At0 @Bt0", &v, out, at);
-    }
-    at
 }
 
-fn jump(answer: &[u8], r: usize, across: u32, up: u32, out: &mut [u8], at: usize) -> usize
-    requires { r < 45 }
+fn jump(row: Row, ends: Ends, page: &mut Page)
+    ensures { Extends page.old page.new }
 {
-    if !jumps(answer, r) {
-        return at;
+    if let Some(from) = previous(row)
+        && jumps(from, row)
+    {
+        let [a, b] = places(from, ends);
+        let [c, d] = places(row, ends);
+        page.filled(
+            b"<path d=\"M@At0 @Bt0L@Ct0 @Dt0\" stroke=\"#000\" stroke-width=\"1.2\" stroke-dasharray=\"5 4\"/>\n",
+            &[a, b, c, d],
+        );
     }
-    if r == 0 {
-        return at;
-    }
-    let p = places(answer, r - 1, across, up);
-    let q = places(answer, r, across, up);
-    let v = [p[0], p[1], q[0], q[1]];
-    filled(
-        b"<path d=\"M@At0 @Bt0L@Ct0 @Dt0\" stroke=\"#000\" stroke-width=\"1.2\" stroke-dasharray=\"5 4\"/>\n",
-        &v,
-        out,
-        at,
-    )
 }
 
 // The outline of a layer's mark: dot, square, triangle.
-fn outline(layer: u32, x: u32, y: u32, out: &mut [u8], at: usize) -> usize
-    ensures { result ≤ length out.old }
+fn outline(layer: u32, x: u32, y: u32, page: &mut Page)
+    ensures { Extends page.old page.new }
 {
     let v = [
         x,
         y,
-        scale::minus(x, 40),
-        scale::minus(y, 40),
-        scale::minus(y, 52),
+        x.saturating_sub(40),
+        y.saturating_sub(40),
+        y.saturating_sub(52),
     ];
-    if layer == 1 {
-        return filled(b"<circle cx=\"@At0\" cy=\"@Bt0\" r=\"4.2\" ", &v, out, at);
+    match layer {
+        1 => page.filled(b"<circle cx=\"@At0\" cy=\"@Bt0\" r=\"4.2\" ", &v),
+        2 => page.filled(b"<path d=\"M@Ct0 @Dt0h8v8h-8z\" ", &v),
+        _ => page.filled(b"<path d=\"M@At0 @Et0l5 9.2h-10z\" ", &v),
     }
-    if layer == 2 {
-        return filled(b"<path d=\"M@Ct0 @Dt0h8v8h-8z\" ", &v, out, at);
-    }
-    filled(b"<path d=\"M@At0 @Et0l5 9.2h-10z\" ", &v, out, at)
 }
 
 // A layer's mark at a place.
-pub fn mark(layer: u32, x: u32, y: u32, hollow: bool, out: &mut [u8], at: usize) -> usize
-    ensures { result ≤ length out.old }
+pub fn mark(layer: u32, x: u32, y: u32, hollow: bool, page: &mut Page)
+    ensures { Extends page.old page.new }
 {
-    let a = outline(layer, x, y, out, at);
+    outline(layer, x, y, page);
     if hollow {
-        let b = text(out, a, b"fill=\"#fff\" stroke=\"");
-        let c = colour(layer, out, b);
-        return text(out, c, b"\" stroke-width=\"1.5\"/>");
+        page.text(b"fill=\"#fff\" stroke=\"");
+        colour(layer, page);
+        page.text(b"\" stroke-width=\"1.5\"/>");
+    } else {
+        page.text(b"fill=\"");
+        colour(layer, page);
+        page.text(b"\" stroke=\"#fff\" stroke-width=\".8\"/>");
     }
-    let b = text(out, a, b"fill=\"");
-    let c = colour(layer, out, b);
-    text(out, c, b"\" stroke=\"#fff\" stroke-width=\".8\"/>")
 }
 
 // Whether a row's mark is hollow: a row below 0 km, or one made at a cusp or after it.
-fn hollow(answer: &[u8], r: usize) -> bool
-    requires { r < 45 }
-{
-    let kind = view::row_kind(answer, r);
-    below(answer, r) | view::is_cusp(kind) | view::is_after_cusp(kind)
+fn hollow(row: Row) -> bool {
+    row.below() || row.view.is_cusp(row.r) || row.view.is_after_cusp(row.r)
 }
 
-fn row_mark(answer: &[u8], r: usize, across: u32, up: u32, out: &mut [u8], at: usize) -> usize
-    requires { r < 45 }
+fn row_mark(row: Row, ends: Ends, page: &mut Page)
+    ensures { Extends page.old page.new }
 {
-    if !drawn(answer, r) {
-        return at;
-    }
-    let p = places(answer, r, across, up);
-    let a = mark(layer(answer, r), p[0], p[1], hollow(answer, r), out, at);
-    text(out, a, b"\n")
-}
-
-// What is drawn of a row: its part of the layer's line, the jump to it, its mark.
-#[derive(Clone, Copy)]
-enum Piece {
-    Line,
-    Jump,
-    Mark,
-}
-
-fn one(
-    piece: Piece,
-    answer: &[u8],
-    r: usize,
-    across: u32,
-    up: u32,
-    out: &mut [u8],
-    at: usize,
-) -> usize
-    requires { r < 45 }
-{
-    match piece {
-        Piece::Line => line(answer, r, across, up, out, at),
-        Piece::Jump => jump(answer, r, across, up, out, at),
-        Piece::Mark => row_mark(answer, r, across, up, out, at),
+    if row.drawn() {
+        let [x, y] = places(row, ends);
+        mark(row.layer(), x, y, hollow(row), page);
+        page.text(b"\n");
     }
 }
 
-fn each(piece: Piece, answer: &[u8], across: u32, up: u32, out: &mut [u8], at: usize) -> usize {
-    let mut to = at;
-    let mut r = 0usize;
-    while r < layout::COLUMN_ROWS {
-        to = one(piece, answer, r, across, up, out, to);
-        r += 1;
+fn each<F: Fn(Row, &mut Page)>(view: View, page: &mut Page, draw: F)
+    requires callable { F.IsAlwaysCallable draw }
+    requires extends { (row : _) (p : _) (q : _) → F.post draw row p tt q → Extends p.now q.now }
+    ensures { Extends page.old page.new }
+{
+    for r in 0..layout::COLUMN_ROWS {
+        draw(Row { view, r }, page);
     }
-    to
 }
 
-// The curve, where the axes end at `across` (0.1 km) and `up` (0.001 deg).
-pub fn curve(answer: &[u8], across: u32, up: u32, out: &mut [u8], at: usize) -> usize
-    ensures { result ≤ length out.old }
+// The curve: each layer's line, the jumps between them, and the marks.
+pub fn curve(view: View, ends: Ends, page: &mut Page)
+    ensures { Extends page.old page.new }
 {
-    let a = text(
-        out,
-        at,
-        b"<g fill=\"none\" stroke-width=\"2.2\" stroke-linejoin=\"round\">\n",
-    );
-    let b = each(Piece::Line, answer, across, up, out, a);
-    let c = text(out, b, b"</g>\n");
-    let d = each(Piece::Jump, answer, across, up, out, c);
-    let e = each(Piece::Mark, answer, across, up, out, d);
-    decimal::inside(e, out)
+    page.text(b"<g fill=\"none\" stroke-width=\"2.2\" stroke-linejoin=\"round\">\n");
+    each(view, page, |row, page| line(row, ends, page));
+    page.text(b"</g>\n");
+    each(view, page, |row, page| jump(row, ends, page));
+    each(view, page, |row, page| row_mark(row, ends, page));
 }

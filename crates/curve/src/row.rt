@@ -1,37 +1,11 @@
 // What is drawn of a row: lengths in 0.1 km, angles in 0.001 deg.
-ghost use Rattle.std.specs.Prelude.{◌≡◌, ◌+◌, ◌≤◌, ◌<◌};
+ghost use Rattle.std.specs.Prelude.{◌≡◌, ℕ, Bool, not, ◌==◌, ◌+◌, ◌≤◌, ◌<◌};
+ghost use Rattle.view.specs.View.{rows_of};
 ghost use Rattle.job.specs.Layout.{word as meant·word};
-ghost use Rattle.curve.specs.Rows.{number_of, shown_of, rows_of, hop_of, angle_of, drawn_of, far_of, high_of, largest};
+ghost use Rattle.curve.specs.Rows.{number_of, shown_of, hop_of, angle_of, drawn_of, layer_of, below_of, far_of, high_of, count_of, largest};
 
 use job::layout;
-
-// How many rows the answer has, 45 at most.
-pub fn rows(answer: &[u8]) -> usize
-    ensures value { result ≡ rows_of answer.now }
-    ensures upper_bound { result ≤ 45 }
-{
-    let n = view::word(answer, layout::ROWS) as usize;
-    if n <= layout::COLUMN_ROWS {
-        return n;
-    }
-    layout::COLUMN_ROWS
-}
-
-// Word r of a column.
-fn bits(answer: &[u8], column: usize, r: usize) -> u32
-    requires column_bound { column < 1000 }
-    requires r_bound { r < 45 }
-    ensures { result ≡ meant·word answer.now (column + r) }
-{
-    view::word(answer, column + r)
-}
-
-// 1 E, 2 F1, 3 F2.
-pub(crate) fn layer(answer: &[u8], r: usize) -> u32
-    requires { r < 45 }
-{
-    bits(answer, layout::IMODE, r)
-}
+use view::View;
 
 // Neither NaN nor infinite.
 pub fn is_number(w: u32) -> bool
@@ -60,124 +34,164 @@ pub fn in_thousandths(w: u32) -> u32
     0
 }
 
-pub(crate) fn hop(answer: &[u8], r: usize) -> u32
-    requires { r < 45 }
-    ensures { result ≡ shown_of (hop_of answer.now r) 10 }
-{
-    in_tenths(bits(answer, layout::GDFLX, r))
+// A row for which the answer has room, counted from 0.
+#[derive(Clone, Copy)]
+pub(crate) struct Row<'a> {
+    pub(crate) view: View<'a>,
+    pub(crate) r: usize,
+    ghost has_room: { r < 45 },
 }
 
-pub(crate) fn angle(answer: &[u8], r: usize) -> u32
-    requires { r < 45 }
-    ensures { result ≡ shown_of (angle_of answer.now r) 1000 }
-{
-    in_thousandths(bits(answer, layout::DELFX, r))
-}
-
-// Whether there is such a row, and it has a hop length.
-pub(crate) fn drawn(answer: &[u8], r: usize) -> bool
-    ensures { result ≡ drawn_of answer.now r }
-{
-    if r < rows(answer) {
-        return is_number(bits(answer, layout::GDFLX, r));
+impl Row<'_> {
+    // Its word of a column.
+    fn bits(self, column: usize) -> u32
+        requires { column < 1000 }
+        ensures { result ≡ meant·word self.entry.view.answer.now (column + self.entry.r) }
+    {
+        view::word(self.view.answer, column + self.r)
     }
-    false
-}
 
-// Whether it has a hop length below 0, rounded.
-pub(crate) fn below(answer: &[u8], r: usize) -> bool
-    requires { r < 45 }
-{
-    let w = bits(answer, layout::GDFLX, r);
-    drawn(answer, r) & (w >= 0x8000_0000) & (rounding::tenths_of(w, 1) > 0)
-}
-
-fn far(answer: &[u8], r: usize) -> u32
-    requires { r < 45 }
-    ensures { result ≡ far_of answer.now r }
-{
-    if drawn(answer, r) {
-        return hop(answer, r);
+    // 1 E, 2 F1, 3 F2.
+    pub(crate) fn layer(self) -> u32
+        ensures { result ≡ layer_of self.entry.view.answer.now self.entry.r }
+    {
+        self.bits(layout::IMODE)
     }
-    0
+
+    pub(crate) fn hop(self) -> u32
+        ensures { result ≡ shown_of (hop_of self.entry.view.answer.now self.entry.r) 10 }
+    {
+        in_tenths(self.bits(layout::GDFLX))
+    }
+
+    pub(crate) fn angle(self) -> u32
+        ensures { result ≡ shown_of (angle_of self.entry.view.answer.now self.entry.r) 1000 }
+    {
+        in_thousandths(self.bits(layout::DELFX))
+    }
+
+    // Whether the answer has it, and it has a hop length.
+    pub(crate) fn drawn(self) -> bool
+        ensures { result ≡ drawn_of self.entry.view.answer.now self.entry.r }
+    {
+        self.r < self.view.rows() && is_number(self.bits(layout::GDFLX))
+    }
+
+    // Whether it has a hop length below 0, rounded.
+    #[tactic(auto, using(std::proofs::lemmas::Bool::Decides::nat_tests), unfolding(crate::specs::Rows::below_of))]
+    pub(crate) fn below(self) -> bool
+        ensures { result ≡ below_of self.entry.view.answer.now self.entry.r }
+    {
+        let w = self.bits(layout::GDFLX);
+        self.drawn() && w >= 0x8000_0000 && rounding::tenths_of(w, 1) > 0
+    }
+
+    #[tactic(auto, unfolding(crate::specs::Rows::far_of))]
+    fn far(self) -> u32
+        ensures { result ≡ far_of self.entry.view.answer.now self.entry.r }
+    {
+        if self.drawn() { self.hop() } else { 0 }
+    }
+
+    #[tactic(auto, using(std::proofs::lemmas::Bool::Decides::nat_tests), unfolding(crate::specs::Rows::high_of))]
+    fn high(self) -> u32
+        ensures { result ≡ high_of self.entry.view.answer.now self.entry.r }
+    {
+        if self.r < self.view.rows() {
+            self.angle()
+        } else {
+            0
+        }
+    }
 }
 
-fn high(answer: &[u8], r: usize) -> u32
-    requires { r < 45 }
-    ensures { result ≡ high_of answer.now r }
+// The largest of what the rows give; 0 where none gives more.
+#[tactic(auto, using(crate::proofs::RowLaws::largest_steps))]
+fn largest<F: Fn(Row) -> u32>(view: View, of: F) -> u32
+    ghost f: { ℕ → ℕ }
+    requires callable { F.IsAlwaysCallable of }
+    requires gives { (row : _) (n : _) → row.view.answer.now ≡ view.answer.now → F.post of row n → n ≡ f row.r }
+    ensures { result ≡ largest f 45 }
 {
-    if r < rows(answer) {
-        return angle(answer, r);
+    let mut top = 0;
+    for r in 0..layout::COLUMN_ROWS {
+        top = top.max(of(Row { view, r }));
     }
-    0
+    top
 }
 
 // The longest row's hop length; 0 where none is longer.
-pub fn farthest(answer: &[u8]) -> u32
-    ensures { result ≡ largest (far_of answer.now) 45 }
+pub fn farthest(view: View) -> u32
+    ensures { result ≡ largest (far_of view.entry.answer.now) 45 }
 {
-    let mut top = 0u32;
-    let mut r = 0usize;
-    while r < layout::COLUMN_ROWS {
-        top = scale::max(top, far(answer, r));
-        r += 1;
-    }
-    top
+    largest(
+        view,
+        |row|
+            ensures { result ≡ far_of row.entry.view.answer.now row.entry.r }
+        { row.far() },
+    )
 }
 
 // The highest row's angle.
-pub fn highest(answer: &[u8]) -> u32
-    ensures { result ≡ largest (high_of answer.now) 45 }
+pub fn highest(view: View) -> u32
+    ensures { result ≡ largest (high_of view.entry.answer.now) 45 }
 {
-    let mut top = 0u32;
-    let mut r = 0usize;
-    while r < layout::COLUMN_ROWS {
-        top = scale::max(top, high(answer, r));
-        r += 1;
-    }
-    top
+    largest(
+        view,
+        |row|
+            ensures { result ≡ high_of row.entry.view.answer.now row.entry.r }
+        { row.high() },
+    )
 }
 
-// What rows are counted by.
-#[derive(Clone, Copy)]
-pub enum Kind {
-    OfLayer(u32),
-    NoLength,
-    Below,
-}
-
-fn is_of(answer: &[u8], r: usize, k: Kind) -> bool
-    requires { r < 45 }
+// How many of the answer's rows are so.
+#[tactic(auto, using(crate::proofs::RowLaws::count_steps))]
+fn count<F: Fn(Row) -> bool>(view: View, is_so: F) -> u32
+    ghost so: { ℕ → Bool }
+    requires callable { F.IsAlwaysCallable is_so }
+    requires gives { (row : _) (b : _) → row.view.answer.now ≡ view.answer.now → F.post is_so row b → b ≡ so row.r }
+    ensures value { result ≡ count_of so (rows_of view.entry.answer.now) }
+    ensures upper_bound { result ≤ 45 }
 {
-    if r < rows(answer) {
-        return match k {
-            Kind::OfLayer(l) => layer(answer, r) == l,
-            Kind::NoLength => !drawn(answer, r),
-            Kind::Below => below(answer, r),
-        };
-    }
-    false
-}
-
-fn more(n: u32, yes: bool) -> u32
-    requires { n < 45 }
-    ensures { result ≤ n + 1 }
-{
-    if yes {
-        return n + 1;
+    let mut n = 0;
+    for r in 0..view.rows() {
+        n += u32::from(is_so(Row { view, r }));
     }
     n
 }
 
-// How many rows are of a kind.
-pub fn count(answer: &[u8], k: Kind) -> u32
-    ensures { result ≤ 45 }
+pub fn count_of_layer(view: View, layer: u32) -> u32
+    ensures value { result ≡ count_of (λ r. layer_of view.entry.answer.now r == layer) (rows_of view.entry.answer.now) }
+    ensures upper_bound { result ≤ 45 }
 {
-    let mut n = 0u32;
-    let mut r = 0usize;
-    while r < layout::COLUMN_ROWS {
-        n = more(n, is_of(answer, r, k));
-        r += 1;
-    }
-    n
+    count(
+        view,
+        |row|
+            ensures { result ≡ (layer_of row.entry.view.answer.now row.entry.r == layer) }
+        { row.layer() == layer },
+    )
+}
+
+pub fn count_without_length(view: View) -> u32
+    ensures value { result ≡ count_of (λ r. not (drawn_of view.entry.answer.now r)) (rows_of view.entry.answer.now) }
+    ensures upper_bound { result ≤ 45 }
+{
+    count(
+        view,
+        |row|
+            ensures { result ≡ not (drawn_of row.entry.view.answer.now row.entry.r) }
+        { !row.drawn() },
+    )
+}
+
+pub fn count_below(view: View) -> u32
+    ensures value { result ≡ count_of (below_of view.entry.answer.now) (rows_of view.entry.answer.now) }
+    ensures upper_bound { result ≤ 45 }
+{
+    count(
+        view,
+        |row|
+            ensures { result ≡ below_of row.entry.view.answer.now row.entry.r }
+        { row.below() },
+    )
 }

@@ -1,3 +1,2 @@
-pub mod WroteLaws
-pub mod NumberTexts
-pub mod FilledLaws
+pub mod PageLaws
+pub mod FieldLaws

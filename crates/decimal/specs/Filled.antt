@@ -1,7 +1,7 @@
 -- A text with fields.
 use Rattle.std.specs.Prelude.{ℕ, ◌-◌, min, cond, List, [], ◌∷◌, ◌++◌, leb, eqb, get_or}
 use Rattle.rounding.specs.Decimals.{decimal, float_text, tenths_text, right_in}
-use Rattle.decimal.specs.Wrote.{hex_text}
+use Rattle.decimal.specs.Page.{hex_text}
 
 -- how far b is above `low`, 31 at most: 0 where it is below
 abbrev pub count_of : ℕ → ℕ → ℕ

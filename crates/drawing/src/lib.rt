@@ -1,42 +1,49 @@
 // The drawing of a reflectrix, in SVG: hop length across, take-off angle up, the rows, the asked length, the rays.
-#![tactic(auto)]
+#![tactic(auto, using(decimal::proofs::PageLaws::extends))]
 
-ghost use Rattle.std.specs.Prelude.{◌≤◌, length};
+ghost use Rattle.decimal.specs.Page.{Extends};
 
-use decimal::text;
+use curve::Ends;
+use decimal::Page;
+use view::View;
 
 mod head;
 mod legend;
 
 // The highest angle to be shown: a row's, a ray's or the minimum; 90 deg where there are no rows.
-fn highest(job: &[u8], answer: &[u8]) -> u32 {
-    if curve::rows(answer) == 0 {
+fn highest(view: View) -> u32 {
+    if view.rows() == 0 {
         return 90_000;
     }
-    scale::max(
-        scale::max(curve::highest(answer), rays::highest(job, answer)),
-        curve::in_thousandths(view::word(job, view::AMIND)),
-    )
-}
-
-// The drawing at the start of out; where it ends.
-pub fn drawing(name: &[u8], job: &[u8], answer: &[u8], out: &mut [u8]) -> usize
-    ensures { result ≤ length out.old }
-{
-    let across = scale::across(curve::farthest(answer), curve::in_tenths(view::asked(job)));
-    let up = scale::up(highest(job, answer));
-    let a = head::head(name, job, answer, out);
-    let b = plot::grid(job, across, up, out, a);
-    let c = plotted(job, answer, across.end, up.end, out, b);
-    let d = legend::legend(job, answer, out, c);
-    text(out, d, b"</svg>\n")
+    curve::highest(view)
+        .max(rays::highest(view))
+        .max(curve::in_thousandths(view::word(view.job, view::AMIND)))
 }
 
 // What stands inside the plot.
-fn plotted(job: &[u8], answer: &[u8], across: u32, up: u32, out: &mut [u8], at: usize) -> usize {
-    let a = plot::dotted(answer, across, out, at);
-    let b = curve::curve(answer, across, up, out, a);
-    let c = plot::asked(job, answer, up, out, b);
-    let d = plot::labels(job, answer, across, out, c);
-    rays::rays(job, answer, up, out, d)
+fn plotted(view: View, ends: Ends, page: &mut Page)
+    ensures { Extends page.old page.new }
+{
+    plot::dotted(view, ends.across, page);
+    curve::curve(view, ends, page);
+    plot::asked(view, ends.up, page);
+    plot::labels(view, ends.across, page);
+    rays::rays(view, ends.up, page);
+}
+
+// The drawing, behind what the page has.
+pub fn drawing(name: &[u8], view: View, page: &mut Page)
+    ensures { Extends page.old page.new }
+{
+    let across = scale::across(curve::farthest(view), curve::in_tenths(view.asked()));
+    let up = scale::up(highest(view));
+    head::head(name, view, page);
+    plot::grid(view, across, up, page);
+    let ends = Ends {
+        across: across.end,
+        up: up.end,
+    };
+    plotted(view, ends, page);
+    legend::legend(view, page);
+    page.text(b"</svg>\n");
 }

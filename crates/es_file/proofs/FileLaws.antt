@@ -11,8 +11,12 @@ use lib.Ieee.{Float, nan, le}
 use borrow.Author.Tests.{le-leb}
 use Rattle.arith.specs.Floats.{f32}
 use Rattle.arith.specs.Numbers.{0·0}
-use Rattle.limits.specs.Limits.{broken, freq_within, amind_within, es_within}
-use Rattle.limits.proofs.LimitsLaws.{or_else, numbered, broken_append}
+use Rattle.std.specs.Prelude.{Result, Ok, ⊤}
+use Rattle.limits.specs.declared.Refusal.{Refusal}
+use Rattle.limits.specs.declared.Refusal.TheVariants.{Job}
+use Rattle.limits.specs.Limits.{broken, outcome_of, freq_within, amind_within, es_within}
+use Rattle.limits.proofs.ChainLaws.{held}
+use Rattle.limits.proofs.LimitsLaws.{numbered}
 use Rattle.words.proofs.ListLaws.{get_d_tab}
 use Rattle.esmod.proofs.Accepted.{point_counted, accepted, accepted_is, point_is}
 use Rattle.esmod.specs.declared.EsModes.{EsModes}
@@ -20,16 +24,6 @@ use Rattle.esmod.specs.Esmod.{middle_of, point_of, no_hops, hops_of, limits_of, 
 use Rattle.esmod.specs.Esmod as esmod
 use Rattle.job.specs.Parts.{point_numbers, number_at, numbers_at}
 use Rattle.es_file.specs.File.{es_bytes, of_file, km_of, fs_of, hs_of, chosen_of, governing_fs, governing_hs, modes_of, number_of, point_tests, points_tests, last_tests}
-
-pub else_some : (n m : ℕ) → (n ≡ 0 → ⊥) → n ≡ or_else n m
-else_some zero m h = absurd (h refl)
-else_some (suc n) m h = refl
-
--- the point is one of five
-pub point_below : (fs : List (List Float)) (n : ℕ) → n ≤ 5 → point_of fs n < 5
-unfolding point_of
-point_below fs zero h = omega arith
-point_below fs (suc n) h = omega (arith, point_counted fs n)
 
 -- no test has the number 0
 numbered_append : (xs ys : List (ℕ × Bool)) → numbered xs ≡ true → numbered ys ≡ true → numbered (xs ++ ys) ≡ true
@@ -44,18 +38,10 @@ numbered_point : (file : List ℕ) (i : ℕ) → numbered (point_tests file i) �
 numbered_point file i =
     rw (le-leb 1 (16 + i + 1) (omega arith), le-leb 1 (1 + 3 * i + 1) (omega arith), le-leb 1 (1 + 3 * i + 1 + 1) (omega arith), le-leb 1 (1 + 3 * i + 2 + 1) (omega arith))
 
-numbered_points : (file : List ℕ) (n : ℕ) → numbered (points_tests file n) ≡ true
+pub numbered_points : (file : List ℕ) (n : ℕ) → numbered (points_tests file n) ≡ true
 unfolding points_tests
 numbered_points file zero = refl
 numbered_points file (suc n) = numbered_append (points_tests file n) (point_tests file n) (numbered_points file n) (numbered_point file n)
-
--- a point more, and what comes behind the points
-pub points_more : (file : List ℕ) (i : ℕ) {found n r : ℕ} → found ≡ broken (points_tests file i) → n ≡ broken (point_tests file i) → r ≡ or_else found n → r ≡ broken (points_tests file (i + 1))
-unfolding points_tests
-points_more file i f e o = rw (add-one, broken_append (points_tests file i) (point_tests file i) (numbered_points file i), ← f, ← e) o
-
-pub points_then : (file : List ℕ) (n : ℕ) {found last r : ℕ} → found ≡ broken (points_tests file n) → last ≡ broken (last_tests file) → r ≡ or_else found last → r ≡ broken (points_tests file n ++ last_tests file)
-points_then file n f e o = rw (broken_append (points_tests file n) (last_tests file) (numbered_points file n), ← f, ← e) o
 
 -- ---- the number is one of 0, 1, 5, 6, 14
 
@@ -79,6 +65,13 @@ unfolding esmod_of
 esmod_number km fs hs gcd gcdkm amind freq fsdead =
     let k = point_of fs km in
     answer_is (broken (limits_of km fs hs gcd gcdkm amind freq fsdead)) (esmod.modes_of (middle_of fs k) (get_or hs k nan) gcd gcdkm amind freq fsdead) (no_number (middle_of fs k) (get_or hs k nan) gcd gcdkm amind freq fsdead)
+
+-- the number of a file as long as its layout
+pub checked : (file : List ℕ) {a : Result ⊤ Refusal} {x : ⊤} {n : ℕ} → a ≡ outcome_of (eqb (length file) es_bytes) Job → a ≡ Ok x
+    → n ≡ broken (limits_of (km_of file) (fs_of file) (hs_of file) (number_at file (of_file "gcd")) (number_at file (of_file "gcdkm")) (number_at file (of_file "amind")) (number_at file (of_file "freq")) (number_at file (of_file "fsdead")))
+    → n ≡ number_of file
+unfolding modes_of
+checked file e k b = rw (held (eqb (length file) es_bytes) Job e k, esmod_number) b
 
 -- where it is 0, esmod works with what is shown of the point that governs
 module _ (file : List ℕ) where

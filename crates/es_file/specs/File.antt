@@ -1,9 +1,10 @@
 -- The file of `ray es`: what esmod is asked, in 26 words of 4 bytes, least byte first, and esmod's answer.
-use Rattle.std.specs.Prelude.{ℕ, zero, suc, ◌+◌, ◌*◌, min, Bool, cond, List, [], ◌∷◌, ◌++◌, eqb, length, Float}
+use Rattle.std.specs.Prelude.{ℕ, zero, suc, ◌+◌, ◌*◌, min, Bool, cond, List, [], ◌∷◌, ◌++◌, eqb, length, Option, Some, None, Result, Ok, Err, ⊤, Float}
 use Prim.Native.String.{String}
 use Rattle.limits.specs.Limits.{broken, refusal_job, freq_within, amind_within, km_within, hs_within, fs_within, gcd_within, gcdkm_within}
 use Rattle.job.specs.Layout.{Layout, place_of, words_in, word}
 use Rattle.job.specs.Parts.{points, point_numbers, number_at, numbers_at, points_at}
+use Rattle.esmod.specs.declared.EsJob.{EsJob}
 use Rattle.esmod.specs.declared.EsModes.{EsModes}
 use Rattle.esmod.specs.Esmod.{point_of, esmod_of}
 
@@ -37,6 +38,20 @@ governing_fs file = word file (of_file "fs" + point_numbers * chosen_of file + 1
 abbrev pub governing_hs : List ℕ → ℕ
 governing_hs file = word file (of_file "hs" + chosen_of file)
 
+-- what esmod is asked
+abbrev pub job_of : List ℕ → EsJob
+job_of file =
+    record {
+      km = km_of file;
+      fs = fs_of file;
+      hs = hs_of file;
+      gcd = number_at file (of_file "gcd");
+      gcdkm = number_at file (of_file "gcdkm");
+      amind = number_at file (of_file "amind");
+      freq = number_at file (of_file "freq");
+      fsdead = number_at file (of_file "fsdead");
+    }
+
 unfoldable pub modes_of : List ℕ → EsModes
 modes_of file =
     esmod_of (km_of file) (fs_of file) (hs_of file)
@@ -68,6 +83,15 @@ points_tests file (suc i) = points_tests file i ++ point_tests file i
 
 unfoldable pub last_tests : List ℕ → List (ℕ × Bool)
 last_tests file = test file (of_file "gcd") gcd_within ∷ test file (of_file "gcdkm") gcdkm_within ∷ test file (of_file "fsdead") fs_within ∷ []
+
+-- a word that is found, counted from 1; 0 where none is
+abbrev pub found_by : Result ⊤ ℕ → ℕ
+found_by (Ok x) = 0
+found_by (Err i) = i + 1
+
+abbrev pub counted : Option ℕ → ℕ
+counted None = 0
+counted (Some i) = i + 1
 
 -- its word, counted from 1; 0 where none is out of its range
 unfoldable pub found_of : List ℕ → ℕ

@@ -1,14 +1,15 @@
 // The file of `ray es`: its words, esmod's answer to them, and the first number that is out of its range.
 #![tactic(auto)]
 
-ghost use Rattle.std.specs.Prelude.{◌≡◌, cond, ◌+◌, ◌*◌, ◌<◌, min};
-ghost use Rattle.limits.specs.Limits.{broken};
-ghost use Rattle.limits.proofs.LimitsLaws.{or_else};
+ghost use Rattle.std.specs.Prelude.{◌≡◌, ◌+◌, ◌*◌, ◌<◌, min};
+ghost use Rattle.limits.specs.Limits.{within, broken, code_of, outcome_of};
 ghost use Rattle.job.specs.Parts.{points, point_numbers, number_at, numbers_at};
-ghost use Rattle.es_file.specs.File.{of_file, fs_of, hs_of, chosen_of, modes_of, number_of, point_tests, points_tests, last_tests, found_of};
+ghost use Rattle.es_file.specs.File.{of_file, fs_of, hs_of, job_of, chosen_of, modes_of, number_of, point_tests, points_tests, last_tests, found_by, found_of, counted};
 
-use esmod::EsModes;
+use esmod::{EsJob, EsModes};
 use job::layout;
+use limits::{Range, Refusal};
+use std::array;
 use view::word;
 
 // Where the parts stand, in words.
@@ -37,53 +38,46 @@ fn number(file: &[u8], i: usize) -> f32
     words::float(word(file, i))
 }
 
-// The three fs of point i.
-fn three(file: &[u8], i: usize) -> [f32; 3]
-    requires { i < 5 }
-    ensures { result ≡ numbers_at file.now (of_file "fs" + point_numbers * i) point_numbers }
-{
-    let at = FS + layout::POINT_NUMBERS * i;
-    [number(file, at), number(file, at + 1), number(file, at + 2)]
-}
-
+// Each point's three fs.
 fn fs(file: &[u8]) -> [[f32; 3]; 5]
     ensures { result ≡ fs_of file.now }
 {
-    [
-        three(file, 0),
-        three(file, 1),
-        three(file, 2),
-        three(file, 3),
-        three(file, 4),
-    ]
+    array::from_fn(
+        |point|
+            requires { point < points }
+            ensures { result ≡ numbers_at file.entry.now (of_file "fs" + point_numbers * point) point_numbers }
+        { words::array_at(file, 4 * (FS + layout::POINT_NUMBERS * point)) },
+    )
 }
 
 fn hs(file: &[u8]) -> [f32; 5]
     ensures { result ≡ hs_of file.now }
 {
-    [
-        number(file, HS),
-        number(file, HS + 1),
-        number(file, HS + 2),
-        number(file, HS + 3),
-        number(file, HS + 4),
-    ]
+    words::array_at(file, 4 * HS)
+}
+
+// What esmod is asked.
+fn job(file: &[u8]) -> EsJob
+    ensures { result ≡ job_of file.now }
+{
+    EsJob {
+        km: word(file, KM) as usize,
+        fs: fs(file),
+        hs: hs(file),
+        gcd: number(file, GCD),
+        gcdkm: number(file, GCDKM),
+        amind: number(file, AMIND),
+        freq: number(file, FREQ),
+        fsdead: number(file, FSDEAD),
+    }
 }
 
 // esmod's answer.
+#[tactic(auto, unfolding(crate::specs::File::modes_of))]
 pub fn modes(file: &[u8]) -> EsModes
     ensures { result ≡ modes_of file.now }
 {
-    esmod::esmod(
-        word(file, KM) as usize,
-        fs(file),
-        hs(file),
-        number(file, GCD),
-        number(file, GCDKM),
-        number(file, AMIND),
-        number(file, FREQ),
-        number(file, FSDEAD),
-    )
+    job(file).esmod()
 }
 
 // The point that governs, counted from 0.
@@ -91,80 +85,72 @@ pub fn chosen(file: &[u8]) -> usize
     ensures value { result ≡ chosen_of file.now }
     ensures upper_bound { result < 5 }
 {
-    let points = fs(file);
-    esmod::point(word(file, KM) as usize, &points)
+    job(file).point()
 }
 
-// The number of the first limit broken, 0 where none is.
-pub fn refusal(file: &[u8]) -> u32
-    ensures { result ≡ number_of file.now }
+// The first limit broken: the length, or one of esmod's.
+pub fn check(file: &[u8]) -> Result<(), Refusal>
+    ensures { code_of result ≡ number_of file.now }
 {
-    if file.len() == BYTES {
-        let m = modes(file);
-        return m.refusal;
-    }
-    limits::REFUSAL_JOB
+    limits::check(file.len() == BYTES, Refusal::Job)?;
+    job(file).check()
 }
 
-// n where its test fails, else what is found later.
-fn kept(within: bool, n: usize, later: usize) -> usize
-    ensures { result ≡ cond within later n }
+// Word i is within its range, or else it is the one that is found.
+fn in_range(file: &[u8], i: usize, range: Range) -> Result<(), usize>
+    ensures { result ≡ outcome_of (within range.0 range.1 (number_at file.now i)) i }
 {
-    if within { later } else { n }
+    limits::check(range.holds(number(file, i)), i)
 }
 
-fn or_else(n: usize, later: usize) -> usize
-    ensures { result ≡ or_else n later }
-{
-    if n == 0 { later } else { n }
-}
-
-fn in_point(file: &[u8], i: usize) -> usize
+#[tactic(auto, using(crate::proofs::FoundLaws::places))]
+fn in_point(file: &[u8], i: usize) -> Result<(), usize>
     requires { i < 5 }
-    ensures { result ≡ broken (point_tests file.now i) }
+    ensures { found_by result ≡ broken (point_tests file.now i) }
 {
-    let a = FS + layout::POINT_NUMBERS * i;
-    let b = a + 1;
-    let c = a + 2;
-    let third = kept(limits::fs_within(number(file, c)), c + 1, 0);
-    let second = kept(limits::fs_within(number(file, b)), b + 1, third);
-    let first = kept(limits::fs_within(number(file, a)), a + 1, second);
-    kept(limits::hs_within(number(file, HS + i)), HS + i + 1, first)
+    let at = FS + layout::POINT_NUMBERS * i;
+    in_range(file, HS + i, limits::HS)?;
+    in_range(file, at, limits::FS)?;
+    in_range(file, at + 1, limits::FS)?;
+    in_range(file, at + 2, limits::FS)
 }
 
 // In the first km points, at most 5.
-fn in_points(file: &[u8], km: usize) -> usize
-    ensures { result ≡ broken (points_tests file.now (min km points)) }
+#[tactic(auto, using(crate::proofs::FoundLaws::points))]
+fn in_points(file: &[u8], km: usize) -> Result<(), usize>
+    ensures { found_by result ≡ broken (points_tests file.now (min km points)) }
 {
-    let counted = if km < layout::POINTS {
-        km
-    } else {
-        layout::POINTS
-    };
-    let mut found = 0usize;
-    let mut i = 0usize;
-    while i < counted {
-        found = or_else(found, in_point(file, i));
-        i += 1;
+    for i in 0..km.min(layout::POINTS) {
+        in_point(file, i)?;
     }
-    found
+    Ok(())
 }
 
-fn in_last(file: &[u8]) -> usize
-    ensures { result ≡ broken (last_tests file.now) }
+#[tactic(auto, using(crate::proofs::FoundLaws::places), unfolding(crate::specs::File::last_tests))]
+fn in_last(file: &[u8]) -> Result<(), usize>
+    ensures { found_by result ≡ broken (last_tests file.now) }
 {
-    let third = kept(limits::fs_within(number(file, FSDEAD)), FSDEAD + 1, 0);
-    let second = kept(limits::gcdkm_within(number(file, GCDKM)), GCDKM + 1, third);
-    kept(limits::gcd_within(number(file, GCD)), GCD + 1, second)
+    in_range(file, GCD, limits::GCD)?;
+    in_range(file, GCDKM, limits::GCDKM)?;
+    in_range(file, FSDEAD, limits::FS)
 }
 
-// The word of the first number that is out of its range, counted from 1; 0 where none is.
-pub fn found(file: &[u8]) -> usize
-    ensures { result ≡ found_of file.now }
+// In the order in which esmod's limits are tested.
+#[tactic(auto, using(crate::proofs::FoundLaws::places, crate::proofs::FoundLaws::then_last, crate::proofs::FoundLaws::before_last), unfolding(crate::specs::File::found_of))]
+fn in_all(file: &[u8]) -> Result<(), usize>
+    ensures { found_by result ≡ found_of file.now }
 {
     let km = word(file, KM) as usize;
-    let fourth = or_else(in_points(file, km), in_last(file));
-    let third = kept(limits::km_within(km), KM + 1, fourth);
-    let second = kept(limits::amind_within(number(file, AMIND)), AMIND + 1, third);
-    kept(limits::freq_within(number(file, FREQ)), FREQ + 1, second)
+    in_range(file, FREQ, limits::FREQ)?;
+    in_range(file, AMIND, limits::AMIND)?;
+    limits::check(limits::km_within(km), KM)?;
+    in_points(file, km)?;
+    in_last(file)
+}
+
+// The word of the first number that is out of its range.
+pub fn found(file: &[u8]) -> Option<usize>
+    ensures { counted result ≡ found_of file.now }
+{
+    in_all(file).err()
 }

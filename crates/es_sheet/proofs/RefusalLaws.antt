@@ -1,14 +1,24 @@
--- For `line`: a word counted from 1. Assumes nothing.
+-- For `sentence`: what is said of every limit but three. Assumes nothing.
 use mathlib.Core.Path.{◌≡◌, refl}
-use mathlib.Core.List.{List, []}
-use Prim.Native.Nat.{ℕ, zero, suc, ◌-◌}
-use native.Mathlib.Omega.{arith}
-use Rattle.job.specs.Layout.{word}
-use Rattle.es_sheet.specs.Refusal.{word_text, line_of}
+use mathlib.Core.List.{List}
+use Prim.Native.Nat.{ℕ}
+use Rattle.limits.specs.declared.Refusal.{Refusal}
+use Rattle.limits.specs.declared.Refusal.TheVariants.{Job, Answer, K, Nang, Freq, Amind, Ghop, Fi, Table, Ifob, Slots, Count, Layer, Es}
+use Rattle.limits.specs.Limits.{number_of}
+use Rattle.es_sheet.specs.Refusal.{sentence_of}
 
-pub line_none : (file : List ℕ) (n : ℕ) → n ≡ 0 → [] ≡ line_of file n
-line_none file n e = rw e
-
-pub line_some : (file : List ℕ) (n : ℕ) {w : ℕ} → (n ≡ 0 → ⊥) → w ≡ word file (n - 1) → word_text w (n - 1) ≡ line_of file n
-line_some file zero h e = absurd (h refl)
-line_some file (suc n) h e = let less : suc n - 1 ≡ n = omega arith in rw (e, less)
+pub others : (r : Refusal) → (r ≡ Job → ⊥) → (r ≡ Freq → ⊥) → (r ≡ Amind → ⊥) → sentence_of 14 ≡ sentence_of (number_of r)
+others Job a b c = absurd (a refl)
+others Freq a b c = absurd (b refl)
+others Amind a b c = absurd (c refl)
+others Answer a b c = refl
+others K a b c = refl
+others Nang a b c = refl
+others Ghop a b c = refl
+others Fi a b c = refl
+others Table a b c = refl
+others Ifob a b c = refl
+others Slots a b c = refl
+others Count a b c = refl
+others Layer a b c = refl
+others Es a b c = refl

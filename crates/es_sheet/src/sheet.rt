@@ -1,10 +1,12 @@
 // The page: the point that governs, what was asked, slots 4 and 5.
+#![tactic(auto, using(decimal::proofs::PageLaws::pages), unfolding(words::specs::Lists::tab))]
+
 ghost use Rattle.std.specs.Prelude.{◌≡◌};
-ghost use Rattle.decimal.specs.Wrote.{Wrote};
+ghost use Rattle.decimal.specs.Page.{added};
 ghost use Rattle.es_file.specs.File.{governing_fs};
 ghost use Rattle.es_sheet.specs.Page.{head_values, head_text, is_empty, slot_text, why_text, slots_text, page_of};
 
-use decimal::{filled, text};
+use decimal::Page;
 use esmod::{EsHop, EsModes};
 use job::layout;
 use view::word;
@@ -34,16 +36,13 @@ fn head_values(file: &[u8]) -> [u32; 9]
     ]
 }
 
-fn head(file: &[u8], out: &mut [u8], at: usize) -> usize
-    ensures { Wrote out.old at (head_text file.now) out.new result }
+fn head(file: &[u8], page: &mut Page)
+    ensures { page.new ≡ added page.old (head_text file.now) }
 {
-    let v = head_values(file);
-    filled(
+    page.filled(
         b": slots 4 and 5\n------------------------------------------------------------------------------\n  Point @Aw1 of the @Bw1, counted from 0, governs: the smallest middle fs.\n\n  Frequency     @E39 MHz          Middle fs     @C39 MHz\n  Path, gcdkm   @G19 km           Height, hs    @D19 km\n  Path, gcd     @I39 rad          Cutoff, fsdead@H39 MHz\n  Minimum angle @F39 deg\n\nRAYS by sporadic E\nslot  hops    take-off      height       delay\n                 angle\n                   deg          km          ms\n",
-        &v,
-        out,
-        at,
-    )
+        &head_values(file),
+    );
 }
 
 fn empty(h: EsHop) -> bool
@@ -52,11 +51,12 @@ fn empty(h: EsHop) -> bool
     h.hn < 0.0
 }
 
-fn slot(s: u32, h: EsHop, out: &mut [u8], at: usize) -> usize
-    ensures { Wrote out.old at (slot_text s h) out.new result }
+fn slot(s: u32, h: EsHop, page: &mut Page)
+    ensures { page.new ≡ added page.old (slot_text s h) }
 {
     if empty(h) {
-        return filled(b"  @Aw1   empty\n", &[s], out, at);
+        page.filled(b"  @Aw1   empty\n", &[s]);
+        return;
     }
     let v = [
         s,
@@ -65,47 +65,38 @@ fn slot(s: u32, h: EsHop, out: &mut [u8], at: usize) -> usize
         words::bits(h.hp),
         words::bits(h.timed),
     ];
-    filled(b"  @Aw1   @B01      @C39   @D19   @E39\n", &v, out, at)
+    page.filled(b"  @Aw1   @B01      @C39   @D19   @E39\n", &v);
 }
 
 // Why both slots are empty.
-fn why(file: &[u8], out: &mut [u8], at: usize) -> usize
-    ensures { Wrote out.old at (why_text file.now) out.new result }
+fn why(file: &[u8], page: &mut Page)
+    ensures { page.new ≡ added page.old (why_text file.now) }
 {
     if view::at_least(word(file, es_file::FSDEAD), word(file, es_file::FREQ)) {
-        return text(
-            out,
-            at,
-            b"No ray: the frequency is not above the cutoff, fsdead.\n",
-        );
+        page.text(b"No ray: the frequency is not above the cutoff, fsdead.\n");
+    } else if view::at_least(0, middle(file)) {
+        page.text(b"No ray: the middle fs is not above 0.\n");
+    } else {
+        page.text(b"No ray: by one or two hops the path is too long, or the angle too low.\n");
     }
-    if view::at_least(0, middle(file)) {
-        return text(out, at, b"No ray: the middle fs is not above 0.\n");
-    }
-    text(
-        out,
-        at,
-        b"No ray: by one or two hops the path is too long, or the angle too low.\n",
-    )
 }
 
-fn slots(file: &[u8], m: EsModes, out: &mut [u8], at: usize) -> usize
-    ensures { Wrote out.old at (slots_text file.now m) out.new result }
+fn slots(file: &[u8], m: EsModes, page: &mut Page)
+    ensures { page.new ≡ added page.old (slots_text file.now m) }
 {
-    let a = slot(4, m.slot4, out, at);
-    let b = slot(5, m.slot5, out, a);
+    slot(4, m.slot4, page);
+    slot(5, m.slot5, page);
     if empty(m.slot4) & empty(m.slot5) {
-        return why(file, out, b);
+        why(file, page);
     }
-    b
 }
 
-// At the start of out; where it ends.
-pub fn page(name: &[u8], file: &[u8], out: &mut [u8]) -> usize
-    ensures { Wrote out.old 0 (page_of name.now file.now) out.new result }
+#[tactic(auto, using(decimal::proofs::PageLaws::pages), unfolding(words::specs::Lists::tab, crate::specs::Page::page_of))]
+pub fn page(name: &[u8], file: &[u8], page: &mut Page)
+    ensures { page.new ≡ added page.old (page_of name.now file.now) }
 {
-    let a = text(out, 0, b"SPORADIC E of ");
-    let b = names::shown(name, out, a);
-    let c = head(file, out, b);
-    slots(file, es_file::modes(file), out, c)
+    page.text(b"SPORADIC E of ");
+    names::shown(name, page);
+    head(file, page);
+    slots(file, es_file::modes(file), page);
 }

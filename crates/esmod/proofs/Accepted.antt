@@ -8,11 +8,8 @@ use lib.ListN.{get_or}
 use lib.Ieee.{Float, nan, lt}
 use Rattle.arith.specs.Floats.{◌⊖◌}
 use Rattle.arith.specs.Numbers.{0·0}
-use Rattle.limits.specs.declared.Checked.{Checked}
-use Rattle.limits.specs.declared.Checked.TheVariants.{Within}
-use Rattle.limits.specs.Limits.{checked_by, broken, freq_within, amind_within, km_within, hs_within, gcd_within, gcdkm_within, points_within, es_within}
+use Rattle.limits.specs.Limits.{broken, freq_within, amind_within, km_within, hs_within, gcd_within, gcdkm_within, points_within, es_within}
 use Rattle.limits.proofs.LimitsLaws.{both, km_within_lem, points_within_lem, unbroken}
-use Rattle.limits.proofs.CheckedLaws.{within}
 use Rattle.esmod.specs.declared.EsModes.{EsModes}
 use Rattle.esmod.specs.Esmod.{middle_of, point_of, no_hops, limits_of, answer_of}
 
@@ -57,19 +54,12 @@ module _ (km : ℕ) (fs : List (List Float)) (hs : List Float) (gcd gcdkm amind 
       let b = unbroken _ (amind_within amind) _ a.1 in
       of_numbers (unbroken _ (es_within km fs hs gcd gcdkm fsdead) _ b.1).0
 
-  -- as the code has it: the answer of the checks is Within
-  pub passed : {r : ℕ} {a : Checked} → r ≡ broken (limits_of km fs hs gcd gcdkm amind freq fsdead) → a ≡ checked_by r → a ≡ Within → Accepted km fs hs gcdkm
-  passed {r} b e w = accepted (sym b ∙ within r e w)
-
 whole : (km : ℕ) → km ≤ 5 → min km 5 ≡ km
 whole km h = omega arith
 
 -- the point among at most 5 is the point
 pub point_is : {km : ℕ} {fs : List (List Float)} {hs : List Float} {gcdkm : Float} {k : ℕ} → Accepted km fs hs gcdkm → k ≡ point_of fs (min km 5) → k ≡ point_of fs km
 point_is {km} {fs} a e = e ∙ ap (point_of fs) (whole km a.few)
-
-pub point_few : {km : ℕ} {fs : List (List Float)} {hs : List Float} {gcdkm : Float} {k : ℕ} → Accepted km fs hs gcdkm → k ≡ point_of fs (min km 5) → k < 5
-point_few a e = omega (arith, a.counted, a.few, point_is a e)
 
 -- the two ways of an answer
 pub refused_is : (n : ℕ) (m : EsModes) → (n ≡ 0 → ⊥) → no_hops n ≡ answer_of n m

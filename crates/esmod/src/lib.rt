@@ -2,13 +2,26 @@
 // The rays of up to two hops by sporadic E.
 #![tactic(auto)]
 
-ghost use Rattle.std.specs.Prelude.{◌≡◌, true, min};
+ghost use Rattle.std.specs.Prelude.{◌≡◌, ◌<◌, true, min};
 ghost use Rattle.angles.specs.SinCos.{sin_of};
-ghost use Rattle.limits.specs.Limits.{broken, hs_within, gcdkm_within};
+ghost use Rattle.limits.specs.Limits.{broken, code_of, hs_within, gcdkm_within};
 ghost use Rattle.esmod.specs.Esmod.{point_of, empty_hop, del_of, hop_of, no_hops, sdmax_of, hops_of, modes_of, limits_of, esmod_of};
 
 use arith::{PIO2, R2D, RZ, VOFL};
-use limits::Checked;
+use limits::Refusal;
+
+// What is asked: km points, each with its three fs and its hs; the path as an angle at the earth's centre and in km, which need not agree; the minimum angle, the frequency and the cutoff.
+#[derive(Clone, Copy)]
+pub struct EsJob {
+    pub km: usize,
+    pub fs: [[f32; 3]; 5],
+    pub hs: [f32; 5],
+    pub gcd: f32,
+    pub gcdkm: f32,
+    pub amind: f32,
+    pub freq: f32,
+    pub fsdead: f32,
+}
 
 // A slot: the take-off angle in degrees, the number of hops, the height of the layer in km, the delay in ms. -1 in all four where it is empty.
 #[repr(C)]
@@ -29,22 +42,6 @@ pub struct EsModes {
     pub slot5: EsHop,
 }
 
-// The point with the smallest middle fs, the first of equals, of the first km, at most 5: the point that governs.
-pub fn point(km: usize, fs: &[[f32; 3]; 5]) -> usize
-    ensures { result ≡ point_of fs.now (min km 5) }
-{
-    let counted = if km < 5 { km } else { 5 };
-    let mut k = 0usize;
-    let mut is = 0usize;
-    while is < counted {
-        if fs[k][1] - fs[is][1] > 0.0 {
-            k = is;
-        }
-        is += 1;
-    }
-    k
-}
-
 fn empty() -> EsHop
     ensures { result ≡ empty_hop }
 {
@@ -57,6 +54,7 @@ fn empty() -> EsHop
 }
 
 // The take-off angle in radians.
+#[tactic(auto, unfolding(crate::specs::Esmod::del_of))]
 fn del(hs: f32, thet: f32, sine: f32) -> f32
     requires { sine ≡ sin_of thet }
     ensures { result ≡ del_of hs thet }
@@ -126,65 +124,61 @@ fn hops(hs: f32, gcd: f32, gcdkm: f32, amind: f32) -> EsModes
     }
 }
 
-// By the chosen point's middle fs and hs.
-fn modes(fs: f32, hs: f32, gcd: f32, gcdkm: f32, amind: f32, freq: f32, fsdead: f32) -> EsModes
-    requires { (hs_within hs ≡ true) × (gcdkm_within gcdkm ≡ true) }
-    ensures { result ≡ modes_of fs hs gcd gcdkm amind freq fsdead }
-{
-    if freq <= fsdead {
-        return no_hops(0);
-    }
-    if fs <= 0.0 {
-        return no_hops(0);
-    }
-    hops(hs, gcd, gcdkm, amind)
-}
-
-// The number of the first broken limit, 0 where none is.
-fn broken_limit(
-    km: usize,
-    fs: &[[f32; 3]; 5],
-    hs: &[f32; 5],
-    gcd: f32,
-    gcdkm: f32,
-    amind: f32,
-    freq: f32,
-    fsdead: f32,
-) -> u32
-    ensures { result ≡ broken (limits_of km fs.now hs.now gcd gcdkm amind freq fsdead) }
-{
-    if limits::freq_within(freq) {
-        if limits::amind_within(amind) {
-            if limits::es_within(km, fs, hs, gcd, gcdkm, fsdead) {
-                0
-            } else {
-                limits::REFUSAL_ES
+impl EsJob {
+    // The point with the smallest middle fs, the first of equals, of the first km, at most 5: the point that governs.
+    pub fn point(&self) -> usize
+        ensures value { result ≡ point_of self.now.fs (min self.now.km 5) }
+        ensures upper_bound { result < 5 }
+    {
+        let mut k = 0;
+        for is in 0..self.km.min(5) {
+            if self.fs[k][1] - self.fs[is][1] > 0.0 {
+                k = is;
             }
-        } else {
-            limits::REFUSAL_AMIND
         }
-    } else {
-        limits::REFUSAL_FREQ
+        k
     }
-}
 
-// km points, each with its three fs and its hs; the path as an angle at the earth's centre and in km, which need not agree.
-pub fn esmod(
-    km: usize,
-    fs: [[f32; 3]; 5],
-    hs: [f32; 5],
-    gcd: f32,
-    gcdkm: f32,
-    amind: f32,
-    freq: f32,
-    fsdead: f32,
-) -> EsModes
-    ensures { result ≡ esmod_of km fs hs gcd gcdkm amind freq fsdead }
-{
-    let numbers = limits::checked_by(broken_limit(km, &fs, &hs, gcd, gcdkm, amind, freq, fsdead));
-    let Checked::Within = numbers else {
-        return no_hops(limits::number(numbers));
-    };
-    let k = point(km, &fs);
-    modes(fs[k][1], hs[k], gcd, gcdkm, amind, freq, fsdead)
+    // The limits, in their order.
+    #[tactic(auto, using(limits::proofs::ChainLaws::chain), unfolding(crate::specs::Esmod::limits_of))]
+    pub fn check(&self) -> Result<(), Refusal>
+        ensures { code_of result ≡ broken (limits_of self.now.km self.now.fs self.now.hs self.now.gcd self.now.gcdkm self.now.amind self.now.freq self.now.fsdead) }
+    {
+        limits::check(limits::FREQ.holds(self.freq), Refusal::Freq)?;
+        limits::check(limits::AMIND.holds(self.amind), Refusal::Amind)?;
+        let es = limits::es_within(
+            self.km,
+            &self.fs,
+            &self.hs,
+            self.gcd,
+            self.gcdkm,
+            self.fsdead,
+        );
+        limits::check(es, Refusal::Es)
+    }
+
+    // By the chosen point's middle fs and hs.
+    fn modes(&self, fs: f32, hs: f32) -> EsModes
+        requires { (hs_within hs ≡ true) × (gcdkm_within self.now.gcdkm ≡ true) }
+        ensures { result ≡ modes_of fs hs self.now.gcd self.now.gcdkm self.now.amind self.now.freq self.now.fsdead }
+    {
+        if self.freq <= self.fsdead {
+            return no_hops(0);
+        }
+        if fs <= 0.0 {
+            return no_hops(0);
+        }
+        hops(hs, self.gcd, self.gcdkm, self.amind)
+    }
+
+    pub fn esmod(&self) -> EsModes
+        ensures { result ≡ esmod_of self.now.km self.now.fs self.now.hs self.now.gcd self.now.gcdkm self.now.amind self.now.freq self.now.fsdead }
+    {
+        let checked = self.check();
+        let Ok(()) = checked else {
+            return no_hops(limits::code(checked));
+        };
+        let k = self.point();
+        self.modes(self.fs[k][1], self.hs[k])
+    }
 }

@@ -10,7 +10,7 @@ use Rattle.limits.specs.Limits.{broken}
 use Rattle.findf.specs.declared.Reflectrix.{Reflectrix}
 use Rattle.fdist.specs.declared.HopModes.{HopModes}
 use Rattle.fdist.specs.declared.Searched.{Searched}
-use Rattle.fdist.specs.declared.rays.Given.TheVariants.{Present}
+use Rattle.std.specs.Prelude.{Some}
 use Rattle.fdist.specs.Fdist.{Rows, rows_of, Search, low, none_of, run_of, search_by, search_of, limits_of, refused_of, unless_broken, fdist_by, fdist_of}
 use Rattle.fdist.specs.Demand.{ray_of, straddles, gives, reaches, jumped, before, slot_of, stands, tries_of, accepts_of, count_of}
 use Rattle.fdist.proofs.SlotLaws.{Reached, empty_reached}
@@ -116,4 +116,4 @@ module _ (m : HopModes) (rfx : Reflectrix) (ghop amind freq : Float) where
         let g = straddle_gives rows d freq i sides in
         let tall : (j : ℕ) → j ≤ i → jumped rows d j ≡ false → low rows j ≡ false = λ j k _. float_not_le (f32 0) (rows.row (j + 1)).hp (high (j + 1) (omega arith)) in
         let holds = run_holds rows d amind freq i g.0 last tall fresh g.1 (rw g.1 at reached) room in
-        rw (ok, float_not_le d rfx.dmaxkm below) (g.1 ∙ ap Present (sym holds))
+        rw (ok, float_not_le d rfx.dmaxkm below) (g.1 ∙ ap Some (sym holds))

@@ -16,7 +16,7 @@ use Rattle.fdist.specs.declared.Searched.{Searched}
 use Rattle.fdist.specs.declared.pairs.Pair.{Pair}
 use Rattle.fdist.specs.declared.pairs.Pair.TheVariants.{Nothing, Row, Spot}
 use Rattle.fdist.specs.declared.rays.Ray.{Ray}
-use Rattle.fdist.specs.declared.rays.Given.TheVariants.{Present}
+use Rattle.std.specs.Prelude.{Some}
 use Rattle.fdist.specs.Rays.{spot_of, given_of}
 use Rattle.fdist.specs.Fdist.{Rows, rows_of, pair_at, Search, start, empty_of, put_of, none_of, turn_of, turns, run_of, search_by, limits_of, fdist_by, fdist_of}
 use Rattle.fdist.specs.Demand.{ray_of, slot_of}
@@ -39,7 +39,7 @@ spot_fits : (a b : Ray) (dth dth2 d freq : Float) → a.layer ≤ 5 → Fits (sp
 unfolding spot_of
 spot_fits a b dth dth2 d freq h = record { del = single_mul _ _; hp = single_add _ _; ht = single_add _ _; fv = single_mul _ _; af = single_add _ _; layer = h }
 
-given_fits : (row : ℕ → Ray) (d freq : Float) (i : ℕ) (p : Pair) (r : Ray) → ((k : ℕ) → Fits (row k)) → given_of row d freq i p ≡ Present r → Fits r
+given_fits : (row : ℕ → Ray) (d freq : Float) (i : ℕ) (p : Pair) (r : Ray) → ((k : ℕ) → Fits (row k)) → given_of row d freq i p ≡ Some r → Fits r
 given_fits row d freq i Nothing r h e = let z : ◌≡◌ {A = ℕ} 0 1 = cc in absurd (omega arith)
 given_fits row d freq i (Row k) r h e = let q : row k ≡ r = cc in subst Fits q (h k)
 given_fits row d freq i (Spot dth dth2) r h e =
@@ -75,7 +75,7 @@ module _ (t : Rows) (d amind freq : Float) (rows : (i : ℕ) → Fits (t.row i))
   abbrev Slots-so : Next Search Searched → Type 0
   Slots-so = Kept (λ (s : Search). Slots s.m) (λ (a : Searched). Slots a.m)
 
-  ray_fits : (s : Search) (r : Ray) → ray_of t d freq s.at ≡ Present r → Fits r
+  ray_fits : (s : Search) (r : Ray) → ray_of t d freq s.at ≡ Some r → Fits r
   ray_fits s r e = given_fits t.row d freq s.at (pair_at t d s.at) r rows e
 
   turn_slots : (s : Search) → Slots s.m → Slots-so (turn_of t d amind freq s)

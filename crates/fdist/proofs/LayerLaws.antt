@@ -8,6 +8,7 @@ use lib.Ieee.{Float, le}
 use Rattle.arith.specs.Floats.{◌⊗◌, RZ}
 use Rattle.arith.specs.Run.{Next, more, done, onward, run}
 use Rattle.limits.specs.Limits.{broken}
+use Rattle.findf.specs.declared.Reflectrix.{Reflectrix}
 use Rattle.fdist.specs.declared.HopModes.{HopModes}
 use Rattle.fdist.specs.declared.Searched.{Searched}
 use Rattle.fdist.specs.declared.pairs.Pair.{Pair}
@@ -15,7 +16,7 @@ use Rattle.fdist.specs.declared.pairs.Pair.TheVariants.{Nothing, Row, Spot}
 use Rattle.fdist.specs.declared.rays.Ray.{Ray}
 use Rattle.fdist.specs.Pairs.{next_of}
 use Rattle.fdist.specs.Rays.{spot_of}
-use Rattle.fdist.specs.Fdist.{Rows, rows_by, Search, start, none_of, place_by, after_of, pair_at, beyond, low, turn_by, turn_of, turns, run_of, search_by, limits_of, unless_broken, fdist_by}
+use Rattle.fdist.specs.Fdist.{Rows, rows_of, Search, start, none_of, place_by, after_of, pair_at, beyond, low, turn_by, turn_of, turns, run_of, search_by, limits_of, unless_broken, fdist_by, fdist_of}
 
 -- a ray, rows, slots, a search on its way and an answer with other layers
 abbrev relayer : Ray → ℕ → Ray
@@ -88,9 +89,8 @@ unless_by zero m a b e = e
 unless_by (suc n) m a b e = refl
 
 -- the same but for the layers
-pub layers_unread : (m : HopModes) (delfx hpflx htflx gdflx fvflx afflx : List Float) (ls ks : List ℕ) (dmaxkm ghop amind freq : Float)
-    → found_with (fdist_by m (rows_by delfx hpflx htflx gdflx fvflx afflx ks) dmaxkm ghop amind freq) []
-    ≡ found_with (fdist_by m (rows_by delfx hpflx htflx gdflx fvflx afflx ls) dmaxkm ghop amind freq) []
+pub layers_unread : (m : HopModes) (rfx : Reflectrix) (ks : List ℕ) (ghop amind freq : Float)
+    → found_with (fdist_of m (record rfx { imode = ks }) ghop amind freq) [] ≡ found_with (fdist_of m rfx ghop amind freq) []
 unfolding fdist_by search_by
-layers_unread m delfx hpflx htflx gdflx fvflx afflx ls ks dmaxkm ghop amind freq =
-    unless_by (broken (limits_of ghop amind freq)) m _ _ (search_by_lem (rows_by delfx hpflx htflx gdflx fvflx afflx ls) ks (ghop ⊗ RZ) amind freq (le dmaxkm (ghop ⊗ RZ)))
+layers_unread m rfx ks ghop amind freq =
+    unless_by (broken (limits_of ghop amind freq)) m _ _ (search_by_lem (rows_of rfx) ks (ghop ⊗ RZ) amind freq (le rfx.dmaxkm (ghop ⊗ RZ)))

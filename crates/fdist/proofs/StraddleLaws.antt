@@ -17,7 +17,7 @@ use Rattle.fdist.specs.declared.Searched.{Searched}
 use Rattle.fdist.specs.declared.pairs.Pair.{Pair}
 use Rattle.fdist.specs.declared.pairs.Pair.TheVariants.{Nothing, Row, Spot}
 use Rattle.fdist.specs.declared.rays.Ray.{Ray}
-use Rattle.fdist.specs.declared.rays.Given.TheVariants.{Present}
+use Rattle.std.specs.Prelude.{Some}
 use Rattle.fdist.specs.Pairs.{pair_of, next_of}
 use Rattle.fdist.proofs.PairLaws.{pair_within, Gives, rising_gives, falling_gives}
 use Rattle.fdist.specs.Requires.{Within}
@@ -63,7 +63,7 @@ module _ (t : Rows) (d amind freq : Float) where
       rw e (omega (arith, before_mono k a, g))
 
   module _ (i : ℕ) (r : Ray) (last : i < 44) (high : (j : ℕ) → j ≤ i → jumped t d j ≡ false → low t j ≡ false) (fresh : jumped t d i ≡ false)
-      (gives : ray_of t d freq i ≡ Present r) (reached : le amind r.del ≡ true) (few : before t d amind freq i < 6) where
+      (gives : ray_of t d freq i ≡ Some r) (reached : le amind r.del ≡ true) (few : before t d amind freq i < 6) where
     -- on the way to pair i: at a pair that is not jumped, with the rays before it accepted
     record Coming (at rays : ℕ) : Type 0 where
       on_way : at ≤ i
@@ -119,7 +119,7 @@ module _ (t : Rows) (d amind freq : Float) where
     }
 
     -- at the pair itself
-    hit : (s : Search) → Sized s.m → s.at ≡ i → s.rays ≡ before t d amind freq i → (x : Ray) → ray_of t d freq s.at ≡ Present x
+    hit : (s : Search) → Sized s.m → s.at ≡ i → s.rays ≡ before t d amind freq i → (x : Ray) → ray_of t d freq s.at ≡ Some x
         → slot_of (put_of s.m s.rays x x.hp) (before t d amind freq i) ≡ r
     hit s z e n x g =
         let same : x ≡ r = cc (ap (ray_of t d freq) e, gives) in
@@ -132,7 +132,7 @@ module _ (t : Rows) (d amind freq : Float) where
     here_keeps : (s : Search) → Coming s.at s.rays → Sized s.m → s.at ≡ i → Ways t d amind freq s Kept-so
     here_keeps s c z e =
         let n : s.rays ≡ before t d amind freq i = c.counted ∙ ap (before t d amind freq) e in
-        let g : ray_of t d freq s.at ≡ Present r = ap (ray_of t d freq) e ∙ gives in record {
+        let g : ray_of t d freq s.at ≡ Some r = ap (ray_of t d freq) e ∙ gives in record {
           ends = λ k. absurd (early s c k);
           passes = λ w a. let x : ◌≡◌ {A = ℕ} 0 1 = cc in absurd (omega arith);
           sixth = λ x w p a k. hit s z e n x p;
@@ -178,10 +178,10 @@ straddle_by i g1 g2 d false b true true p q u v e = falling_gives i g1 g2 d u v
 straddle_by i g1 g2 d false b true false p q u v e = no e
 straddle_by i g1 g2 d false b false y p q u v e = no e
 
-present : (row : ℕ → Ray) (d freq : Float) (i : ℕ) (p : Pair) → Gives p → (r : Ray) × (given_of row d freq i p ≡ Present r)
+present : (row : ℕ → Ray) (d freq : Float) (i : ℕ) (p : Pair) → Gives p → (r : Ray) × (given_of row d freq i p ≡ Some r)
 present row d freq i Nothing g = absurd g
 present row d freq i (Row k) g = (row k, refl)
 present row d freq i (Spot x y) g = (_, refl)
 
-pub straddle_gives : (t : Rows) (d freq : Float) (i : ℕ) → straddles (t.gd i) (t.gd (i + 1)) d ≡ true → (r : Ray) × (ray_of t d freq i ≡ Present r)
+pub straddle_gives : (t : Rows) (d freq : Float) (i : ℕ) → straddles (t.gd i) (t.gd (i + 1)) d ≡ true → (r : Ray) × (ray_of t d freq i ≡ Some r)
 straddle_gives t d freq i e = present t.row d freq i (pair_at t d i) (straddle_by i (t.gd i) (t.gd (i + 1)) d _ _ _ _ refl refl refl refl e)

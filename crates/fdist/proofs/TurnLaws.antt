@@ -12,8 +12,7 @@ use Rattle.arith.proofs.RunLaws.{Lessens}
 use Rattle.fdist.specs.declared.Searched.{Searched}
 use Rattle.fdist.specs.declared.pairs.Pair.{Pair}
 use Rattle.fdist.specs.declared.rays.Ray.{Ray}
-use Rattle.fdist.specs.declared.rays.Given.{Given}
-use Rattle.fdist.specs.declared.rays.Given.TheVariants.{Absent, Present}
+use Rattle.std.specs.Prelude.{Option, Some, None}
 use Rattle.fdist.specs.Pairs.{next_of}
 use Rattle.fdist.proofs.PairLaws.{next_bounds}
 use Rattle.fdist.specs.Rays.{given_of}
@@ -21,7 +20,7 @@ use Rattle.fdist.specs.Fdist.{Rows, pair_at, Search, found_of, passed, accepted,
 use Rattle.fdist.specs.Demand.{ray_of}
 
 module _ (t : Rows) (d amind freq : Float) (s : Search) where
-  pub turn_tries : {p : Pair} {next : ℕ} {g : Given} → s.at < 44 → low t s.at ≡ false
+  pub turn_tries : {p : Pair} {next : ℕ} {g : Option Ray} → s.at < 44 → low t s.at ≡ false
       → p ≡ pair_at t d s.at → next ≡ next_of s.at p → given_of t.row d freq s.at p ≡ g
       → turn_of t d amind freq s ≡ after_of amind s next g
   unfolding turn_of turn_by
@@ -42,26 +41,26 @@ pub record Tried (t : Rows) (s : Search) : Type 0 where
 -- C of a turn from s, if it holds whichever way the turn goes
 pub record Ways (t : Rows) (d amind freq : Float) (s : Search) (C : Next Search Searched → Type 0) : Type 0 where
   pub ends : (44 ≤ s.at) ⊎ (low t s.at ≡ true) → C (done (found_of s))
-  pub passes : Tried t s → ray_of t d freq s.at ≡ Absent → C (more (passed s (next_at t d s.at)))
-  pub sixth : (r : Ray) → Tried t s → ray_of t d freq s.at ≡ Present r → le amind r.del ≡ true → 6 ≤ s.rays + 1
+  pub passes : Tried t s → ray_of t d freq s.at ≡ None → C (more (passed s (next_at t d s.at)))
+  pub sixth : (r : Ray) → Tried t s → ray_of t d freq s.at ≡ Some r → le amind r.del ≡ true → 6 ≤ s.rays + 1
       → C (done (found_of (accepted s (next_at t d s.at) r)))
-  pub accepts : (r : Ray) → Tried t s → ray_of t d freq s.at ≡ Present r → le amind r.del ≡ true → s.rays + 1 < 6
+  pub accepts : (r : Ray) → Tried t s → ray_of t d freq s.at ≡ Some r → le amind r.del ≡ true → s.rays + 1 < 6
       → C (more (accepted s (next_at t d s.at) r))
-  pub lowers : (r : Ray) → Tried t s → ray_of t d freq s.at ≡ Present r → le amind r.del ≡ false
+  pub lowers : (r : Ray) → Tried t s → ray_of t d freq s.at ≡ Some r → le amind r.del ≡ false
       → C (more (lowered s (next_at t d s.at) r))
 
 module _ (t : Rows) (d amind freq : Float) (s : Search) (C : Next Search Searched → Type 0) (w : Ways t d amind freq s C) where
-  place_ways : (r : Ray) → Tried t s → ray_of t d freq s.at ≡ Present r → (reached sixth : Bool) → le amind r.del ≡ reached → leb 6 (s.rays + 1) ≡ sixth
+  place_ways : (r : Ray) → Tried t s → ray_of t d freq s.at ≡ Some r → (reached sixth : Bool) → le amind r.del ≡ reached → leb 6 (s.rays + 1) ≡ sixth
       → C (place_by reached sixth s (next_at t d s.at) r)
   unfolding place_by
   place_ways r h e true true a b = w.sixth r h e a (leb-true 6 (s.rays + 1) b)
   place_ways r h e true false a b = w.accepts r h e a (leb-false 6 (s.rays + 1) b)
   place_ways r h e false sixth a b = w.lowers r h e a
 
-  after_ways : Tried t s → (g : Given) → ray_of t d freq s.at ≡ g → C (after_of amind s (next_at t d s.at) g)
+  after_ways : Tried t s → (g : Option Ray) → ray_of t d freq s.at ≡ g → C (after_of amind s (next_at t d s.at) g)
   unfolding after_of
-  after_ways h Absent e = w.passes h e
-  after_ways h (Present r) e = place_ways r h e (le amind r.del) (leb 6 (s.rays + 1)) refl refl
+  after_ways h None e = w.passes h e
+  after_ways h (Some r) e = place_ways r h e (le amind r.del) (leb 6 (s.rays + 1)) refl refl
 
   by_ways : (last below : Bool) → leb 44 s.at ≡ last → low t s.at ≡ below → C (turn_by last below t d amind freq s (pair_at t d s.at))
   unfolding turn_by

@@ -1,5 +1,5 @@
 -- The words of demand 3 about the search (document 01, "The words of demand 3"), by the rule on two rows and d. Rows, pairs and slots count from 0.
-use Rattle.std.specs.Prelude.{ℕ, zero, suc, ◌+◌, Bool, true, false, cond, not, ◌&&◌, ◌||◌, ◌≡◌, eqb, get_or, Float}
+use Rattle.std.specs.Prelude.{ℕ, zero, suc, ◌+◌, Bool, true, false, cond, not, ◌&&◌, ◌||◌, ◌≡◌, eqb, Option, Some, None, get_or, Float}
 use Rattle.std.specs.Float.{nan}
 use Rattle.std.specs.Float.Ieee.{lt, le}
 use Rattle.arith.specs.Floats.{◌⊗◌, RZ}
@@ -9,13 +9,11 @@ use Rattle.fdist.specs.declared.HopModes.{HopModes}
 use Rattle.fdist.specs.declared.pairs.Pair.{Pair}
 use Rattle.fdist.specs.declared.pairs.Pair.TheVariants.{Nothing, Row, Spot}
 use Rattle.fdist.specs.declared.rays.Ray.{Ray}
-use Rattle.fdist.specs.declared.rays.Given.{Given}
-use Rattle.fdist.specs.declared.rays.Given.TheVariants.{Absent, Present}
 use Rattle.fdist.specs.Rays.{given_of}
 use Rattle.fdist.specs.Fdist.{Rows, rows_of, pair_at, Search, start, beyond, low, turn_of, turns}
 
 -- "The ray of rows r and r + 1, r from 1 to 44, is the row or spot that those two and d give by the source's rule."
-abbrev pub ray_of : Rows → Float → Float → ℕ → Given
+abbrev pub ray_of : Rows → Float → Float → ℕ → Option Ray
 ray_of t d freq i = given_of t.row d freq i (pair_at t d i)
 
 -- "two neighbouring rows whose hop lengths lie strictly on either side of the asked one"
@@ -23,14 +21,14 @@ abbrev pub straddles : Float → Float → Float → Bool
 straddles g1 g2 d = (lt g1 d && lt d g2) || (lt g2 d && lt d g1)
 
 -- whether two rows give a row or a spot
-abbrev pub gives : Given → Bool
-gives Absent = false
-gives (Present r) = true
+abbrev pub gives : Option Ray → Bool
+gives None = false
+gives (Some r) = true
 
 -- "It reaches the minimum angle where its angle is ≥ amind; NaN never is."
-abbrev pub reaches : Float → Given → Bool
-reaches amind Absent = false
-reaches amind (Present r) = le amind r.del
+abbrev pub reaches : Float → Option Ray → Bool
+reaches amind None = false
+reaches amind (Some r) = le amind r.del
 
 -- "gives its second row as it is"
 abbrev pub gives_second : ℕ → Pair → Bool
@@ -60,8 +58,8 @@ slot_of m n = record {
 }
 
 -- "then their ray stands in the answer": slot n of m holds the ray of a pair, unaltered
-abbrev pub stands : Given → HopModes → ℕ → Type 0
-stands g m n = g ≡ Present (slot_of m n)
+abbrev pub stands : Option Ray → HopModes → ℕ → Type 0
+stands g m n = g ≡ Some (slot_of m n)
 
 -- "A pair is tried when its two hop lengths are compared": 1 for a turn that does so, 0 for one that ends before
 abbrev pub tries_of : Rows → Search → ℕ

@@ -1,5 +1,5 @@
 -- The hop search (modes.rs lines 911 to 1040; document 01, "fdist") as steps from state to state, a pair a step. Slots count from 0.
-use Rattle.std.specs.Prelude.{ℕ, zero, suc, ◌+◌, Bool, true, false, cond, List, [], ◌∷◌, leb, get_or, set, replicate, Float}
+use Rattle.std.specs.Prelude.{ℕ, zero, suc, ◌+◌, Bool, true, false, cond, List, [], ◌∷◌, Option, Some, None, leb, get_or, set, replicate, Float}
 use Rattle.std.specs.Float.{nan}
 use Rattle.std.specs.Float.Ieee.{neg, le}
 use Rattle.arith.specs.Floats.{◌⊗◌, RZ, abs_of}
@@ -11,8 +11,6 @@ use Rattle.fdist.specs.declared.HopModes.{HopModes}
 use Rattle.fdist.specs.declared.Searched.{Searched}
 use Rattle.fdist.specs.declared.pairs.Pair.{Pair}
 use Rattle.fdist.specs.declared.rays.Ray.{Ray}
-use Rattle.fdist.specs.declared.rays.Given.{Given}
-use Rattle.fdist.specs.declared.rays.Given.TheVariants.{Absent, Present}
 use Rattle.fdist.specs.Pairs.{pair_of, next_of}
 use Rattle.fdist.specs.Rays.{row_of, given_of}
 
@@ -21,12 +19,8 @@ pub record Rows : Type 0 where
   pub row : ℕ → Ray
   pub gd : ℕ → Float
 
--- the columns of a reflectrix as rows
-abbrev pub rows_by : List Float → List Float → List Float → List Float → List Float → List Float → List ℕ → Rows
-rows_by delfx hpflx htflx gdflx fvflx afflx imode = record { row = row_of delfx hpflx htflx fvflx afflx imode; gd = λ i. get_or gdflx i nan }
-
 abbrev pub rows_of : Reflectrix → Rows
-rows_of rfx = rows_by rfx.delfx rfx.hpflx rfx.htflx rfx.gdflx rfx.fvflx rfx.afflx rfx.imode
+rows_of rfx = record { row = row_of rfx; gd = λ i. get_or rfx.gdflx i nan }
 
 -- 934 and 935: the rule on pair i
 abbrev pub pair_at : Rows → Float → ℕ → Pair
@@ -93,9 +87,9 @@ place_by true false s next r = more (accepted s next r)
 place_by false sixth s next r = more (lowered s next r)
 
 -- what a tried pair leads to, by the ray that it gives
-unfoldable pub after_of : Float → Search → ℕ → Given → Next Search Searched
-after_of amind s next Absent = more (passed s next)
-after_of amind s next (Present r) = place_by (le amind r.del) (leb 6 (s.rays + 1)) s next r
+unfoldable pub after_of : Float → Search → ℕ → Option Ray → Next Search Searched
+after_of amind s next None = more (passed s next)
+after_of amind s next (Some r) = place_by (le amind r.del) (leb 6 (s.rays + 1)) s next r
 
 -- 928 to 933: "Pairs go upward, ending after pair 44 or where the second row's height is ≤ 0."
 abbrev pub beyond : ℕ → Bool

@@ -1,26 +1,25 @@
 -- The ray that a tried pair gives (modes.rs lines 982 to 1028; document 01, "A ray is angle, virtual height, true height, vertical frequency, absorption factor and layer").
-use Rattle.std.specs.Prelude.{ℕ, ◌+◌, List, get_or, Float}
+use Rattle.std.specs.Prelude.{ℕ, ◌+◌, Option, Some, None, get_or, Float}
 use Rattle.std.specs.Float.{nan}
 use Rattle.arith.specs.Floats.{◌⊕◌, ◌⊖◌, ◌⊗◌, ◌⊘◌, RZ, D2R, R2D, PIO2, max_of}
 use Rattle.arith.specs.Numbers.{0·000001, 0·5, 1·0}
 use Rattle.root.specs.Root.{sqrt_of}
 use Rattle.angles.specs.SinCos.{sin_of, cos_of}
 use Rattle.angles.specs.Arctangent.{atan_of}
+use Rattle.findf.specs.declared.Reflectrix.{Reflectrix}
 use Rattle.fdist.specs.declared.pairs.Pair.{Pair}
 use Rattle.fdist.specs.declared.pairs.Pair.TheVariants.{Nothing, Row, Spot}
 use Rattle.fdist.specs.declared.rays.Ray.{Ray}
-use Rattle.fdist.specs.declared.rays.Given.{Given}
-use Rattle.fdist.specs.declared.rays.Given.TheVariants.{Absent, Present}
 
--- 987 to 992: a row as it is, from the columns of a reflectrix
-abbrev pub row_of : List Float → List Float → List Float → List Float → List Float → List ℕ → ℕ → Ray
-row_of delfx hpflx htflx fvflx afflx imode i = record {
-  del = get_or delfx i nan;
-  hp = get_or hpflx i nan;
-  ht = get_or htflx i nan;
-  fv = get_or fvflx i nan;
-  af = get_or afflx i nan;
-  layer = get_or imode i 0;
+-- 987 to 992: a row as it is
+abbrev pub row_of : Reflectrix → ℕ → Ray
+row_of rfx i = record {
+  del = get_or rfx.delfx i nan;
+  hp = get_or rfx.hpflx i nan;
+  ht = get_or rfx.htflx i nan;
+  fv = get_or rfx.fvflx i nan;
+  af = get_or rfx.afflx i nan;
+  layer = get_or rfx.imode i 0;
 }
 
 -- 1011 to 1014: from x towards y by dth of dth2
@@ -49,7 +48,7 @@ spot_of a b dth dth2 d freq =
     record { del = del; hp = hp; ht = ht; fv = vert_of freq (sphi_of del ht); af = towards a.af b.af dth dth2; layer = a.layer }
 
 -- the ray of pair i, over its rows
-abbrev pub given_of : (ℕ → Ray) → Float → Float → ℕ → Pair → Given
-given_of row d freq i Nothing = Absent
-given_of row d freq i (Row k) = Present (row k)
-given_of row d freq i (Spot dth dth2) = Present (spot_of (row i) (row (i + 1)) dth dth2 d freq)
+abbrev pub given_of : (ℕ → Ray) → Float → Float → ℕ → Pair → Option Ray
+given_of row d freq i Nothing = None
+given_of row d freq i (Row k) = Some (row k)
+given_of row d freq i (Spot dth dth2) = Some (spot_of (row i) (row (i + 1)) dth dth2 d freq)

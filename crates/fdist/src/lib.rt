@@ -2,11 +2,11 @@
 #![tactic(auto)]
 
 ghost use Rattle.std.specs.Prelude.{◌≡◌};
-ghost use Rattle.limits.specs.Limits.{broken, checked_by};
-ghost use Rattle.fdist.specs.Fdist.{rows_by, limits_of, refused_of, fdist_by, fdist_of};
+ghost use Rattle.limits.specs.Limits.{broken, code_of};
+ghost use Rattle.fdist.specs.Fdist.{limits_of, refused_of, fdist_of};
 
 use findf::Reflectrix;
-use limits::Checked;
+use limits::Refusal;
 
 mod pairs;
 mod rays;
@@ -37,19 +37,13 @@ pub struct Searched {
 }
 
 // Limits 5 to 7.
-fn numbers_of(ghop: f32, amind: f32, freq: f32) -> Checked
-    ensures { result ≡ checked_by (broken (limits_of ghop amind freq)) }
+#[tactic(auto, using(limits::proofs::ChainLaws::chain), unfolding(crate::specs::Fdist::limits_of))]
+fn numbers_of(ghop: f32, amind: f32, freq: f32) -> Result<(), Refusal>
+    ensures { code_of result ≡ broken (limits_of ghop amind freq) }
 {
-    if limits::freq_within(freq) {
-        if limits::amind_within(amind) {
-            if limits::ghop_within(ghop) {
-                return Checked::Within;
-            }
-            return Checked::Broken(limits::REFUSAL_GHOP);
-        }
-        return Checked::Broken(limits::REFUSAL_AMIND);
-    }
-    Checked::Broken(limits::REFUSAL_FREQ)
+    limits::check(limits::FREQ.holds(freq), Refusal::Freq)?;
+    limits::check(limits::AMIND.holds(amind), Refusal::Amind)?;
+    limits::check(limits::GHOP.holds(ghop), Refusal::Ghop)
 }
 
 // Refused: the slots as they were.
@@ -64,42 +58,24 @@ fn refused(kept: HopModes, refusal: u32) -> Searched
     }
 }
 
-// The rays of the hop length ghop, an angle at the Earth's centre in radians, over lent columns and their farthest hop.
-pub fn fdist_over<'a>(
-    m: HopModes,
-    delfx: &'a [f32; 45],
-    hpflx: &'a [f32; 45],
-    htflx: &'a [f32; 45],
-    gdflx: &'a [f32; 45],
-    fvflx: &'a [f32; 45],
-    afflx: &'a [f32; 45],
-    imode: &'a [u32; 45],
-    dmaxkm: f32,
-    ghop: f32,
-    amind: f32,
-    freq: f32,
-) -> Searched
-    ensures { result ≡ fdist_by m (rows_by delfx.now hpflx.now htflx.now gdflx.now fvflx.now afflx.now imode.now) dmaxkm ghop amind freq }
+// The rays of the hop length ghop, an angle at the Earth's centre in radians, over a lent reflectrix.
+pub fn fdist_over(m: HopModes, rfx: &Reflectrix, ghop: f32, amind: f32, freq: f32) -> Searched
+    ensures { result ≡ fdist_of m rfx.now ghop amind freq }
 {
     let numbers = numbers_of(ghop, amind, freq);
-    let Checked::Within = numbers else {
-        return refused(m, limits::number(numbers));
+    let Ok(()) = numbers else {
+        return refused(m, limits::code(numbers));
     };
     let dhopkm = ghop * arith::RZ;
-    if dhopkm >= dmaxkm {
+    if dhopkm >= rfx.dmaxkm {
         return search::none();
     }
-    search::search(
-        delfx, hpflx, htflx, gdflx, fvflx, afflx, imode, dhopkm, amind, freq,
-    )
+    search::search(rfx, dhopkm, amind, freq)
 }
 
 // By value: the same over its own copy of the reflectrix.
 pub fn fdist(m: HopModes, rfx: Reflectrix, ghop: f32, amind: f32, freq: f32) -> Searched
     ensures { result ≡ fdist_of m rfx ghop amind freq }
 {
-    fdist_over(
-        m, &rfx.delfx, &rfx.hpflx, &rfx.htflx, &rfx.gdflx, &rfx.fvflx, &rfx.afflx, &rfx.imode,
-        rfx.dmaxkm, ghop, amind, freq,
-    )
+    fdist_over(m, &rfx, ghop, amind, freq)
 }

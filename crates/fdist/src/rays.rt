@@ -4,6 +4,7 @@ ghost use Rattle.fdist.specs.Rays.{row_of, spot_of, given_of};
 ghost use Rattle.fdist.specs.Requires.{Within};
 
 use crate::pairs::Pair;
+use findf::Reflectrix;
 
 // Angle, virtual height, true height, vertical frequency, absorption factor and layer.
 #[derive(Drop)]
@@ -16,32 +17,17 @@ pub(crate) struct Ray {
     pub(crate) layer: u32,
 }
 
-// The ray of one tried pair, if it has one.
-#[derive(Drop)]
-pub(crate) enum Given {
-    Absent,
-    Present(Ray),
-}
-
-fn row_ray<'a>(
-    delfx: &'a [f32; 45],
-    hpflx: &'a [f32; 45],
-    htflx: &'a [f32; 45],
-    fvflx: &'a [f32; 45],
-    afflx: &'a [f32; 45],
-    imode: &'a [u32; 45],
-    i: usize,
-) -> Ray
+fn row_ray(rfx: &Reflectrix, i: usize) -> Ray
     requires { i < 45 }
-    ensures { result ≡ row_of delfx.now hpflx.now htflx.now fvflx.now afflx.now imode.now i }
+    ensures { result ≡ row_of rfx.now i }
 {
     Ray {
-        del: delfx[i],
-        hp: hpflx[i],
-        ht: htflx[i],
-        fv: fvflx[i],
-        af: afflx[i],
-        layer: imode[i],
+        del: rfx.delfx[i],
+        hp: rfx.hpflx[i],
+        ht: rfx.htflx[i],
+        fv: rfx.fvflx[i],
+        af: rfx.afflx[i],
+        layer: rfx.imode[i],
     }
 }
 
@@ -70,29 +56,18 @@ fn spot_ray(a: Ray, b: Ray, dth: f32, dth2: f32, d: f32, freq: f32) -> Ray
     }
 }
 
-// The ray that a tried pair gives.
-pub(crate) fn ray_given<'a>(
-    delfx: &'a [f32; 45],
-    hpflx: &'a [f32; 45],
-    htflx: &'a [f32; 45],
-    fvflx: &'a [f32; 45],
-    afflx: &'a [f32; 45],
-    imode: &'a [u32; 45],
-    d: f32,
-    freq: f32,
-    i: usize,
-    pair: Pair,
-) -> Given
+// The ray that a tried pair gives, if it gives one.
+pub(crate) fn ray_given(rfx: &Reflectrix, d: f32, freq: f32, i: usize, pair: Pair) -> Option<Ray>
     requires { (i < 44) × Within i pair }
-    ensures { result ≡ given_of (row_of delfx.now hpflx.now htflx.now fvflx.now afflx.now imode.now) d freq i pair }
+    ensures { result ≡ given_of (row_of rfx.now) d freq i pair }
 {
     match pair {
-        Pair::Nothing => Given::Absent,
-        Pair::Row(k) => Given::Present(row_ray(delfx, hpflx, htflx, fvflx, afflx, imode, k)),
+        Pair::Nothing => None,
+        Pair::Row(k) => Some(row_ray(rfx, k)),
         Pair::Spot(dth, dth2) => {
-            let a = row_ray(delfx, hpflx, htflx, fvflx, afflx, imode, i);
-            let b = row_ray(delfx, hpflx, htflx, fvflx, afflx, imode, i + 1);
-            Given::Present(spot_ray(a, b, dth, dth2, d, freq))
+            let a = row_ray(rfx, i);
+            let b = row_ray(rfx, i + 1);
+            Some(spot_ray(a, b, dth, dth2, d, freq))
         }
     }
 }

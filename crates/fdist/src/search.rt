@@ -1,10 +1,11 @@
 // Translated from hfcast-engine (commit bf34e8f9f3), src/voacap/modes.rs lines 912 to 933 and 1029 to 1037, and changed.
 ghost use Rattle.std.specs.Prelude.{◌≡◌, ◌≤◌};
-ghost use Rattle.fdist.specs.Fdist.{rows_by, empty_of, found_by, none_of, run_of};
+ghost use Rattle.fdist.specs.Fdist.{rows_of, empty_of, found_by, none_of, run_of};
 
 use crate::pairs::{next_pair, try_pair};
-use crate::rays::{Given, ray_given};
+use crate::rays::ray_given;
 use crate::{HopModes, Searched};
+use findf::Reflectrix;
 
 // Six empty slots.
 fn empty() -> HopModes
@@ -40,33 +41,23 @@ pub(crate) fn none() -> Searched
 }
 
 // The pairs upward, a pair a turn, and each ray into the open slot.
-pub(crate) fn search<'a>(
-    delfx: &'a [f32; 45],
-    hpflx: &'a [f32; 45],
-    htflx: &'a [f32; 45],
-    gdflx: &'a [f32; 45],
-    fvflx: &'a [f32; 45],
-    afflx: &'a [f32; 45],
-    imode: &'a [u32; 45],
-    d: f32,
-    amind: f32,
-    freq: f32,
-) -> Searched
-    ensures { result ≡ run_of (rows_by delfx.now hpflx.now htflx.now gdflx.now fvflx.now afflx.now imode.now) d amind freq }
+pub(crate) fn search(rfx: &Reflectrix, d: f32, amind: f32, freq: f32) -> Searched
+    ensures { result ≡ run_of (rows_of rfx.now) d amind freq }
 {
     let mut m = empty();
     let mut at: usize = 0;
     let mut pairs: u32 = 0;
     let mut rays: usize = 0;
+    // No range: a pair that gives its second row jumps the pair that begins with it.
     while at < 44 {
-        if hpflx[at + 1] <= 0.0 {
+        if rfx.hpflx[at + 1] <= 0.0 {
             return found(pairs, rays, m);
         }
-        let pair = try_pair(at, gdflx[at], gdflx[at + 1], d);
-        let ray = ray_given(delfx, hpflx, htflx, fvflx, afflx, imode, d, freq, at, pair);
+        let pair = try_pair(at, rfx.gdflx[at], rfx.gdflx[at + 1], d);
+        let ray = ray_given(rfx, d, freq, at, pair);
         at = next_pair(at, pair);
         pairs += 1;
-        if let Given::Present(ray) = ray {
+        if let Some(ray) = ray {
             m.delmod[rays] = ray.del;
             m.htmod[rays] = ray.ht;
             m.fvmod[rays] = ray.fv;

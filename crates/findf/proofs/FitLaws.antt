@@ -164,9 +164,9 @@ pub record Fitting (r : Reflectrix) : Type 0 where
   pub kinds : (j : ℕ) → get_or r.kind j 0 ≤ 4
 
 record Read (e : Inputs) : Type 0 where
-  fvert_read : Singles e.fvert
-  htrue_read : Singles e.htrue
-  afac_read : Singles e.afac
+  fvert_read : Singles e.tables.fvert
+  htrue_read : Singles e.tables.htrue
+  afac_read : Singles e.tables.afac
   delpen_read : Singles e.delpen
 
 record Whole (t : Row) : Type 0 where
@@ -287,13 +287,13 @@ begun_fits r p was =
 
 module _ (r : Reflectrix) (j : Job) where
   -- an accepted walk on such columns and tables leaves such columns
-  pub walked_fits : laws.Accepted r j → Singles j.fvert → Singles j.htrue → Singles j.afac → Fitting r
+  pub walked_fits : laws.Accepted r j → Singles j.tables.fvert → Singles j.tables.htrue → Singles j.tables.afac → Fitting r
       → Fitting (findf_of r j).rfx
   unfolding walked_of
   walked_fits ok a b c was =
       let e = demand.read j in
       let first = demand.first r j in
       let few = laws.nang_cap r j ok in
-      let read : Read e = record { fvert_read = a; htrue_read = b; afac_read = c; delpen_read = (penang_angled j.fvert j.htrue (second_of j) j.freq).angles } in
+      let read : Read e = record { fvert_read = a; htrue_read = b; afac_read = c; delpen_read = (penang_angled j.tables.fvert j.tables.htrue (second_of j) j.freq).angles } in
       let all = iterate_keeps (step_of e) Kept (kept_step e read) walk_steps (start, first) (record { low = omega arith; fit = begun_fits r (angles_of j) was }) in
       rw (laws.findf_walks r j ok) (subst (λ (s : State). Fitting s.1) (sym (walk_iterate e few first walk_steps (omega arith))) all.fit)

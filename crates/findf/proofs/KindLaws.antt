@@ -213,7 +213,7 @@ module _ (e : Inputs) where
       → Paired (step_by e l w r).0.label (step_by e l w r).0 (step_by e l w r).1
   unfolding step_by search_of next_layer_of next_cusp_of filled_of
   paired_by Search w r q z g p =
-      paired_other (step_rows e Search w r) (search_uncusped w _ _ _ _ _ (looks_leave e.ifob e.jfhz (w.ia * 30) w.ilow w.ihigh w.ih w.looks (omega arith)).seen) p
+      paired_other (step_rows e Search w r) (search_uncusped w _ _ _ _ _ (looks_leave e.tables.ifob e.jfhz (w.ia * 30) w.ilow w.ihigh w.ih w.looks (omega arith)).seen) p
   paired_by NextLayer w r q z g p = paired_other (step_rows e NextLayer w r) (next_layer_uncusped w _ _ _) p
   paired_by NextCusp w r q z g p = paired_other (step_rows e NextCusp w r) (next_cusp_cusped w _ _) p
   paired_by (Fill fill) w r q z g p =

@@ -75,7 +75,7 @@ module _ (w : Walk) where
 
 step_looks : (e : Inputs) (l : Label) (w : Walk) (r : Reflectrix) → (step_by e l w r).0.looks ≡ w.looks + looks_at e l w
 unfolding step_by search_of next_layer_of next_cusp_of filled_of looks_at
-step_looks e Search w r = search_looks w _ _ _ _ _ _ (looks_are_turns e.ifob e.jfhz (w.ia * 30) w.ilow w.ihigh w.ih w.looks)
+step_looks e Search w r = search_looks w _ _ _ _ _ _ (looks_are_turns e.tables.ifob e.jfhz (w.ia * 30) w.ilow w.ihigh w.ih w.looks)
 step_looks e NextLayer w r = (next_layer_counts w _ _ _).0
 step_looks e NextCusp w r = (next_cusp_counts w _ _).0
 step_looks e (Fill fill) w r = (filled_counts w (leb 45 (w.rows + 1)) fill).0

@@ -22,7 +22,7 @@ module _ (e : Inputs) (w : Walk) (r : Reflectrix) where
   unfolding step_of until
   turns l p d q = ap (λ (x : L.Label). stop_by (done_at x) (w, r) (step_by e x w r)) p ∙ rw d (ap more q)
 
-  pub searches : {v : Walk} → w.label ≡ Search → v ≡ search_of e.ifob e.delpen e.jfhz e.nang w → turn_of e (w, r) ≡ more (v, r)
+  pub searches : {v : Walk} → w.label ≡ Search → v ≡ search_of e.tables.ifob e.delpen e.jfhz e.nang w → turn_of e (w, r) ≡ more (v, r)
   unfolding step_by
   searches p v = turns Search p refl (simp (← v))
 
@@ -37,7 +37,7 @@ module _ (e : Inputs) (w : Walk) (r : Reflectrix) where
   -- what a fill comes to: its row before the correction, the row's layer and kind, the angles given back and the label after it
   abbrev Filled : F.Fill → Filling → Type 0
   Filled fill q =
-      (q.raw ≡ raw_of e.fvert e.hprim e.htrue e.afac e.ifob e.delpen r.delfx e.jfhz fill w)
+      (q.raw ≡ raw_of e.tables e.delpen r.delfx e.jfhz fill w)
       × ((q.mode ≡ mode_of fill w.il e.second) × ((q.kind ≡ kind_of fill) × ((q.back ≡ back_of fill) × (q.after ≡ after_of fill))))
 
   row_is : (fill : F.Fill) {q : Filling} {m : Corrected} {t : Row} → Filled fill q → m ≡ correction_of e.freq e.fc2 q.raw

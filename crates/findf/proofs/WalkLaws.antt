@@ -165,7 +165,7 @@ steps_fine {nang} {l} {w} {v} {v'} p g q f =
 
 pub step_fine : (e : Inputs) (l : Label) (w : Walk) (r : Reflectrix) → done_at l ≡ false → Bounds e.nang l w → Fine e.nang l w (step_by e l w r).0
 unfolding step_by
-step_fine e Search w r d g = search_fine e.nang w e.ifob e.delpen e.jfhz g
+step_fine e Search w r d g = search_fine e.nang w e.tables.ifob e.delpen e.jfhz g
 step_fine e NextLayer w r d g = next_layer_fine e.nang w e.second g
 step_fine e NextCusp w r d g = next_cusp_fine e.nang w e.delpen g
 step_fine e (Fill fill) w r d g = filled_fine e.nang w fill g

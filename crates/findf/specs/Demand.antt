@@ -35,7 +35,7 @@ unfoldable pub looks_at : Inputs → Label → Walk → ℕ
 looks_at e Search w =
     let del = slice_index_or e.delpen (w.il - 1) nan in
     looks_by (le del 0·0) (lt 89·99 del) (nat_le e.nang w.ia) (le (del ⊖ ang_of w.ia) 0·0)
-    (looks_from e.ifob e.jfhz (w.ia * 30) w.ilow w.ihigh w.ih w.looks)
+    (looks_from e.tables.ifob e.jfhz (w.ia * 30) w.ilow w.ihigh w.ih w.looks)
 looks_at e NextLayer w = 0
 looks_at e (Fill fill) w = 0
 looks_at e NextCusp w = 0

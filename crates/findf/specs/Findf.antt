@@ -1,14 +1,14 @@
 -- findf, modes.rs lines 670 to 904: the walk as steps, its start, and the limits before it. Document 01: "A walk is one run of `findf`"; its looks are
 -- "the turns of the inner loop", its rows "those written".
-use Rattle.std.specs.Prelude.{ℕ, zero, suc, Bool, true, false, List, [], ◌∷◌, replicate, Float}
+use Rattle.std.specs.Prelude.{ℕ, zero, suc, Bool, true, false, List, [], ◌∷◌, Result, Ok, Err, replicate, Float}
 use Rattle.std.specs.Float.Ieee.{to_unsigned, neg}
 use Rattle.arith.specs.Floats.{◌⊗◌}
 use Rattle.arith.specs.Numbers.{0·0, 1·0, 1000·0, 10000·0}
 use Rattle.arith.specs.Run.{Next, run, until}
-use Rattle.limits.specs.Limits.{entries_within, broken, refusal_k, k_within, refusal_nang, nang_within, refusal_freq, freq_within, refusal_amind, amind_within, refusal_fi, fi_within, refusal_table, refusal_ifob}
+use Rattle.limits.specs.Limits.{entries_within, broken, number_of, refusal_k, k_within, refusal_nang, nang_within, refusal_freq, freq_within, refusal_amind, amind_within, refusal_fi, fi_within, refusal_table, refusal_ifob}
 use Rattle.penang.specs.Penang.{penang_of}
 use Rattle.findf.specs.Walk.{search_of, next_layer_of, next_cusp_of, filled_of, done_at, start}
-use Rattle.findf.specs.Inputs.{Job, second_of, third_of, Inputs, inputs_of}
+use Rattle.findf.specs.Inputs.{Job, second_of, third_of, Inputs}
 use Rattle.findf.specs.Rows.{row_of, put_row}
 use Rattle.findf.specs.Checks.{rows_within}
 use Rattle.penang.specs.declared.Penetration.{Penetration}
@@ -16,10 +16,9 @@ use Rattle.findf.specs.declared.walk.Walk.{Walk}
 use Rattle.findf.specs.declared.walk.Label.{Label}
 use Rattle.findf.specs.declared.walk.Label.TheVariants.{Search, NextLayer, Fill, NextCusp, Done}
 use Rattle.findf.specs.declared.walk.Fill as F
-use Rattle.findf.specs.declared.checks.Admission.{Admission}
-use Rattle.findf.specs.declared.checks.Admission.TheVariants.{Granted, Refused}
 use Rattle.findf.specs.declared.Reflectrix.{Reflectrix}
 use Rattle.findf.specs.declared.Walked.{Walked}
+use Rattle.limits.specs.declared.Refusal.{Refusal}
 
 -- a state of the walk: what the search knows, and the reflectrix as written so far
 abbrev pub State : Type 0
@@ -32,7 +31,7 @@ fill_of e fill w r =
 
 -- One step is one turn of the Rust's label loop with its looks (lines 725 to 903). Done is a fixed point: the turn that finds Done is no step.
 unfoldable pub step_by : Inputs → Label → Walk → Reflectrix → State
-step_by e Search w r = (search_of e.ifob e.delpen e.jfhz e.nang w, r)
+step_by e Search w r = (search_of e.tables.ifob e.delpen e.jfhz e.nang w, r)
 step_by e NextLayer w r = (next_layer_of e.second w, r)
 step_by e NextCusp w r = (next_cusp_of e.delpen w, r)
 step_by e (Fill fill) w r = (filled_of fill w, fill_of e fill w r)
@@ -55,8 +54,11 @@ unfoldable pub walk_of : Inputs → Reflectrix → State
 walk_of e r = run (turn_of e) (start, r) walk_steps (start, r)
 
 -- no refusal, the looks, and the reflectrix as the walk leaves it
+abbrev pub answered : ℕ → Reflectrix → Walked
+answered looks rfx = record { refusal = 0; looks = looks; rfx = rfx }
+
 abbrev pub answer : State → Walked
-answer s = record { refusal = 0; looks = s.0.looks; rfx = s.1 }
+answer s = answered s.0.looks s.1
 
 unfoldable pub walked_of : Inputs → Reflectrix → Walked
 walked_of e r = answer (walk_of e r)
@@ -106,10 +108,19 @@ begun r p = begun_by r p.delpen (unless_of p.dead 0·0) (unless_of p.dead 10000�
 -- what an accepted job's walk reads: fc2 is the square of fi's third number (line 692)
 abbrev pub read_by : Job → Penetration → Inputs
 read_by j p =
-    inputs_of j.nang j.freq j.amind (jfhz_of j.freq) (second_of j) (third_of j ⊗ third_of j) p.delpen j.fvert j.hprim j.htrue j.afac j.ifob
+    record {
+      nang = j.nang;
+      freq = j.freq;
+      amind = j.amind;
+      jfhz = jfhz_of j.freq;
+      second = second_of j;
+      fc2 = third_of j ⊗ third_of j;
+      delpen = p.delpen;
+      tables = j.tables;
+    }
 
 abbrev pub angles_of : Job → Penetration
-angles_of j = penang_of j.fvert j.htrue (second_of j) j.freq
+angles_of j = penang_of j.tables.fvert j.tables.htrue (second_of j) j.freq
 
 -- "`findf` by value checks 3 to 6, 8 to 10", in this order
 unfoldable pub limits_of : Job → List (ℕ × Bool)
@@ -119,25 +130,18 @@ limits_of j =
     ∷ (refusal_freq, freq_within j.freq)
     ∷ (refusal_amind, amind_within j.amind)
     ∷ (refusal_fi, fi_within (second_of j) (third_of j))
-    ∷ (refusal_table, rows_within j.fvert j.hprim j.htrue j.afac 30)
-    ∷ (refusal_ifob, entries_within j.ifob 1200)
+    ∷ (refusal_table, rows_within j.tables.fvert j.tables.hprim j.tables.htrue j.tables.afac 30)
+    ∷ (refusal_ifob, entries_within j.tables.ifob 1200)
     ∷ []
-
--- the answer of the checks: the two numbers of the point, or the number of the broken limit
-unfoldable pub admission_by : ℕ → Float → Float → Admission
-admission_by zero second third = Granted second third
-admission_by (suc n) second third = Refused (suc n)
-
-abbrev pub number_of : Admission → ℕ
-number_of (Granted second third) = 0
-number_of (Refused n) = n
-
-unfoldable pub admission_of : Job → Admission
-admission_of j = admission_by (broken (limits_of j)) (second_of j) (third_of j)
 
 -- "a refusal changes nothing lent or passed"
 abbrev pub refused_of : ℕ → Reflectrix → Walked
 refused_of refusal r = record { refusal = refusal; looks = 0; rfx = r }
+
+-- what a call returns, with the reflectrix that it was lent as it leaves it
+abbrev pub walked_with : Result ℕ Refusal → Reflectrix → Walked
+walked_with (Ok looks) rfx = answered looks rfx
+walked_with (Err refusal) rfx = refused_of (number_of refusal) rfx
 
 -- findf, by the number of the first limit broken
 unfoldable pub findf_by : ℕ → Reflectrix → Job → Walked

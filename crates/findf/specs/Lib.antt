@@ -5,7 +5,6 @@ pub mod Inputs
 pub mod Rows
 pub mod Checks
 pub mod Findf
-pub mod Lent
 pub mod Demand
 -- This is not.
 pub mod Requires

@@ -3,13 +3,13 @@ use Rattle.std.specs.Prelude.{◌≡◌, ℕ, ◌+◌, ◌-◌, ◌≤◌, true,
 use Rattle.arith.specs.Floats.{◌⊗◌, D2R}
 use Rattle.limits.specs.Limits.{ifob_within, entries_within}
 use Rattle.penang.specs.Penang.{penang_of}
-use Rattle.findf.specs.Inputs.{inputs_of}
 use Rattle.findf.specs.Findf.{jfhz_of, begun, walked_of}
 use Rattle.findf.specs.Demand.{due}
 use Rattle.findf.specs.Walk.{ang_of}
 use Rattle.findf.specs.Rows.{rcosd_of}
 use Rattle.findf.specs.declared.correction.Ahead.{Ahead}
 use Rattle.findf.specs.declared.Reflectrix.{Reflectrix}
+use Rattle.findf.specs.declared.Tables.{Tables}
 use Rattle.findf.specs.declared.Walked.{Walked}
 use Rattle.findf.specs.declared.walk.Walk.{Walk}
 use Rattle.findf.specs.declared.walk.Label.{Label}
@@ -82,7 +82,18 @@ abbrev pub Foreseen : Ahead → Type 0
 Foreseen a = (1 ≤ a.ia) × (a.rcosd ≡ rcosd_of (ang_of (a.ia - 1) ⊗ D2R))
 
 -- ---- the walk from its start on, with the two numbers of the point that the checks granted
-unfoldable pub started_of : Reflectrix → ℕ → Float → Float → Float → Float → List Float → List Float → List Float → List Float → List ℤ → Walked
-started_of r nang freq amind second third fvert hprim htrue afac ifob =
-    let p = penang_of fvert htrue second freq in
-    walked_of (inputs_of nang freq amind (jfhz_of freq) second (third ⊗ third) p.delpen fvert hprim htrue afac ifob) (begun r p)
+unfoldable pub started_of : Reflectrix → ℕ → Float → Float → Float → Float → Tables → Walked
+started_of r nang freq amind second third t =
+    let p = penang_of t.fvert t.htrue second freq in
+    walked_of
+    (record {
+      nang = nang;
+      freq = freq;
+      amind = amind;
+      jfhz = jfhz_of freq;
+      second = second;
+      fc2 = third ⊗ third;
+      delpen = p.delpen;
+      tables = t;
+    })
+    (begun r p)

@@ -1,5 +1,5 @@
 -- The row that a fill writes, modes.rs lines 810 to 889, and the skip and farthest distances after it.
-use Rattle.std.specs.Prelude.{ℕ, ◌+◌, ◌-◌, ◌*◌, cond, List, get_or, ℤ, pos, nat_le, slice_index_or, slice_set, Float}
+use Rattle.std.specs.Prelude.{ℕ, ◌+◌, ◌-◌, ◌*◌, cond, List, get_or, pos, nat_le, slice_index_or, slice_set, Float}
 use Rattle.std.specs.Float.{nan, binary32}
 use Rattle.std.specs.Float.Ieee.{of_int, neg, lt, le}
 use Rattle.arith.specs.Floats.{◌⊕◌, ◌⊖◌, ◌⊗◌, ◌⊘◌, RZ, D2R, PIO2, max_of}
@@ -17,6 +17,7 @@ use Rattle.findf.specs.declared.correction.Corrected.{Corrected}
 use Rattle.findf.specs.declared.correction.Row.{Row}
 use Rattle.findf.specs.declared.skip.Skip.{Skip}
 use Rattle.findf.specs.declared.Reflectrix.{Reflectrix}
+use Rattle.findf.specs.declared.Tables.{Tables}
 
 -- a − b as a float
 unfoldable pub gap_of : ℕ → ℕ → Float
@@ -27,32 +28,26 @@ unfoldable pub slope_of : ℕ → ℕ → ℕ → Float
 slope_of lo hi jfhz = gap_of jfhz lo ⊘ max_of (gap_of hi lo) 1·0
 
 -- row h of the tables, as lines 814 to 822 read it
-abbrev pub raw_at : List Float → List Float → List Float → List Float → ℕ → Float → Raw
-raw_at fvert hprim htrue afac h del =
-    record { del = del; ht = slice_index_or htrue h nan; fv = slice_index_or fvert h nan; hp = slice_index_or hprim h nan; af = slice_index_or afac h nan }
+abbrev pub raw_at : Tables → ℕ → Float → Raw
+raw_at t h del =
+    record { del = del; ht = slice_index_or t.htrue h nan; fv = slice_index_or t.fvert h nan; hp = slice_index_or t.hprim h nan; af = slice_index_or t.afac h nan }
 
 -- between rows h and h + 1, as lines 830 to 834 do
 abbrev pub between : List Float → ℕ → Float → Float
 between xs h slope = get_or xs h nan ⊕ (slope ⊗ (get_or xs (h + 1) nan ⊖ get_or xs h nan))
 
-abbrev pub raw_between : List Float → List Float → List Float → List Float → ℕ → Float → Float → Raw
-raw_between fvert hprim htrue afac h del slope =
-    record {
-      del = del;
-      ht = between htrue h slope;
-      fv = between fvert h slope;
-      hp = between hprim h slope;
-      af = between afac h slope;
-    }
+abbrev pub raw_between : Tables → ℕ → Float → Float → Raw
+raw_between t h del slope =
+    record { del = del; ht = between t.htrue h slope; fv = between t.fvert h slope; hp = between t.hprim h slope; af = between t.afac h slope }
 
 -- the row before its correction: angle, true height, vertical frequency, virtual height, absorption factor (lines 813 to 862)
-unfoldable pub raw_of : List Float → List Float → List Float → List Float → List ℤ → List Float → List Float → ℕ → Fill → Walk → Raw
-raw_of fvert hprim htrue afac ifob delpen delfx jfhz Exact w = raw_at fvert hprim htrue afac (w.ih - 1) (ang_of (w.ia - 1))
-raw_of fvert hprim htrue afac ifob delpen delfx jfhz Interp w =
+unfoldable pub raw_of : Tables → List Float → List Float → ℕ → Fill → Walk → Raw
+raw_of t delpen delfx jfhz Exact w = raw_at t (w.ih - 1) (ang_of (w.ia - 1))
+raw_of t delpen delfx jfhz Interp w =
     let at = (w.ia - 1) * 30 + w.ih in
-    raw_between fvert hprim htrue afac (w.ih - 1) (ang_of (w.ia - 1)) (slope_of (entry_of ifob (at - 1)) (entry_of ifob at) jfhz)
-raw_of fvert hprim htrue afac ifob delpen delfx jfhz Cusp w = raw_at fvert hprim htrue afac (w.ihigh - 1) (slice_index_or delpen (w.il - 1) nan)
-raw_of fvert hprim htrue afac ifob delpen delfx jfhz NextCusp360 w = raw_at fvert hprim htrue afac w.ihigh (get_or delfx (w.rows - 1) nan ⊕ 0·001)
+    raw_between t (w.ih - 1) (ang_of (w.ia - 1)) (slope_of (entry_of t.ifob (at - 1)) (entry_of t.ifob at) jfhz)
+raw_of t delpen delfx jfhz Cusp w = raw_at t (w.ihigh - 1) (slice_index_or delpen (w.il - 1) nan)
+raw_of t delpen delfx jfhz NextCusp360 w = raw_at t w.ihigh (get_or delfx (w.rows - 1) nan ⊕ 0·001)
 
 -- the row's layer (lines 821, 835, 846, 856 to 860)
 unfoldable pub next_mode_of : ℕ → Float → ℕ
@@ -108,7 +103,7 @@ row_from freq fc2 mode kind a = row_by a (correction_of freq fc2 a) mode kind
 -- the row of a fill, whole; delfx as written so far
 unfoldable pub row_of : Inputs → List Float → Fill → Walk → Row
 row_of e delfx fill w =
-    row_from e.freq e.fc2 (mode_of fill w.il e.second) (kind_of fill) (raw_of e.fvert e.hprim e.htrue e.afac e.ifob e.delpen delfx e.jfhz fill w)
+    row_from e.freq e.fc2 (mode_of fill w.il e.second) (kind_of fill) (raw_of e.tables e.delpen delfx e.jfhz fill w)
 
 -- lines 877 to 884; il is the walk's layer: at a row after a cusp "it is the old one"
 unfoldable pub skip_of : Skip → Row → ℕ → Skip

@@ -1,13 +1,12 @@
 // Translated from hfcast-engine (commit bf34e8f9f3), src/voacap/modes.rs lines 863 to 876, and changed.
 // A row's height correction and hop length.
 ghost use Rattle.std.specs.Prelude.{◌≡◌, ◌<◌};
-ghost use Rattle.findf.specs.Walk.{ANG};
 ghost use Rattle.findf.specs.Rows.{rcosd_of, corrected_of, hop_of, correction_of, row_by};
 ghost use Rattle.arith.specs.Floats.{◌⊗◌, D2R};
 ghost use Rattle.findf.specs.Requires.{tabled_of, Angled, Foreseen};
 
 use super::rows::Raw;
-use super::walk::Fill;
+use super::walk::{ANGLES, Fill};
 use arith::{D2R, PIO2, RZ};
 
 // The corrected virtual height, and the sine of phe.
@@ -42,10 +41,8 @@ fn tabled(fill: Fill, ia: usize) -> usize
     ensures { result ≡ tabled_of fill ia }
 {
     match fill {
-        Fill::Exact => ia,
-        Fill::Interp => ia,
-        Fill::Cusp => 0,
-        Fill::NextCusp360 => 0,
+        Fill::Exact | Fill::Interp => ia,
+        Fill::Cusp | Fill::NextCusp360 => 0,
     }
 }
 
@@ -76,15 +73,14 @@ fn place_after(ia: usize) -> usize
 }
 
 // RZ times the cosine of the angle after angle ia.
-pub(crate) fn ahead_of(ang: &[f32; 40], ia: usize) -> Ahead
-    requires { ang.now ≡ ANG }
+pub(crate) fn ahead_of(ia: usize) -> Ahead
     ensures { Foreseen result }
 {
     let i = place_after(ia);
     let after = i + 1;
     Ahead {
         ia: after,
-        rcosd: rcosd(Fill::Exact, after, ang[i] * D2R),
+        rcosd: rcosd(Fill::Exact, after, ANGLES[i] * D2R),
     }
 }
 
@@ -142,10 +138,10 @@ pub(crate) fn row_of(a: Raw, m: Corrected, mode: u32, kind: u32) -> Row
         del: a.del,
         hp: m.hp,
         ht: a.ht,
-        gdr: gdr,
+        gdr,
         fv: a.fv,
         af: a.af,
-        mode: mode,
-        kind: kind,
+        mode,
+        kind,
     }
 }

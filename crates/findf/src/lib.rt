@@ -1,13 +1,12 @@
 // Translated from hfcast-engine (commit bf34e8f9f3), src/voacap/modes.rs lines 130 to 153 and 670 to 904, and changed.
-// findf: the reflectrix of one frequency in one area, into lent columns or by value.
+// findf: the reflectrix of one frequency in one area, into a lent one or by value.
 #![tactic(auto)]
 
 ghost use Rattle.std.specs.Prelude.{◌≡◌, ◌≤◌, true};
 ghost use Rattle.limits.specs.Limits.{freq_within};
 ghost use Rattle.findf.specs.Requires.{Entries, started_of};
 ghost use Rattle.findf.specs.Inputs.{job_by};
-ghost use Rattle.findf.specs.Findf.{jfhz_of, unless_of, findf_of};
-ghost use Rattle.findf.specs.Lent.{reflectrix_from, walked_from};
+ghost use Rattle.findf.specs.Findf.{answered, walked_with, jfhz_of, unless_of, findf_of};
 
 mod checks;
 mod correction;
@@ -16,7 +15,8 @@ mod rows;
 mod skip;
 mod walk;
 
-use checks::Admission;
+use limits::Refusal;
+use walk::Setup;
 
 // The kinds of rows: read off a row of the tables, between two of them, made at a cusp, made after it. A row that was not written in the last call has 0.
 pub const KIND_EXACT: u32 = 1;
@@ -50,32 +50,18 @@ pub struct Reflectrix {
     pub rows_this_call: usize,
 }
 
-// The numbers of a reflectrix beside its columns.
+// The tables of one point: the vertical frequency, virtual height, true height and absorption factor of 30 rows, and the entries of 30 rows at each of 40 angles.
 #[repr(C)]
-#[derive(Drop)]
-pub struct Figures {
-    pub dskpkm: f32,
-    pub delskp: f32,
-    pub hpskp: f32,
-    pub htskp: f32,
-    pub dmaxkm: f32,
-    pub fvskp: f32,
-    pub iskp: u32,
-    pub delpen: [f32; 3],
-    pub iaftxr: usize,
-    pub rows_this_call: usize,
+#[derive(Clone, Copy)]
+pub struct Tables {
+    pub fvert: [f32; 30],
+    pub hprim: [f32; 30],
+    pub htrue: [f32; 30],
+    pub afac: [f32; 30],
+    pub ifob: [i32; 1200],
 }
 
-// The refusal's number, 0 where there is none; the turns of the inner loop; the figures, as they came where it is refused.
-#[repr(C)]
-#[derive(Drop)]
-pub struct Outcome {
-    pub refusal: u32,
-    pub looks: u32,
-    pub figures: Figures,
-}
-
-// The refusal's number, 0 where there is none; the turns of the inner loop; the reflectrix, as it came where it is refused.
+// The refusal's number, 0 where there is none; the turns of the inner loop; the reflectrix, as it came where it is refused. C gets it as it is, so it is no Result.
 #[repr(C)]
 #[derive(Drop)]
 pub struct Walked {
@@ -100,107 +86,56 @@ fn unless(dead: bool, x: f32) -> f32
 
 // The start's contents and the penetration angles, then the walk.
 fn started(
-    delfx: &mut [f32; 45],
-    hpflx: &mut [f32; 45],
-    htflx: &mut [f32; 45],
-    gdflx: &mut [f32; 45],
-    fvflx: &mut [f32; 45],
-    afflx: &mut [f32; 45],
-    imode: &mut [u32; 45],
-    kind: &mut [u32; 45],
-    figures: Figures,
+    rfx: &mut Reflectrix,
     nang: usize,
     freq: f32,
     amind: f32,
     second: f32,
     third: f32,
-    fvert: &[f32; 30],
-    hprim: &[f32; 30],
-    htrue: &[f32; 30],
-    afac: &[f32; 30],
-    ifob: &[i32; 1200],
-) -> Outcome
-    requires { Entries ifob.now × ((nang ≤ 40) × (freq_within freq ≡ true)) }
-    ensures { walked_from delfx.new hpflx.new htflx.new gdflx.new fvflx.new afflx.new imode.new kind.new result ≡ started_of (reflectrix_from delfx.old hpflx.old htflx.old gdflx.old fvflx.old afflx.old imode.old kind.old figures) nang freq amind second third fvert.now hprim.now htrue.now afac.now ifob.now }
+    tables: &Tables,
+) -> u32
+    requires { Entries tables.now.ifob × ((nang ≤ 40) × (freq_within freq ≡ true)) }
+    ensures { answered result rfx.new ≡ started_of rfx.old nang freq amind second third tables.now }
 {
-    let jfhz = jfhz(freq);
-    *hpflx = [0.0; 45];
-    *delfx = [0.0; 45];
-    *gdflx = [0.0; 45];
-    *kind = [0; 45];
-    let mut f = figures;
-    f.rows_this_call = 0;
-    let p = penang::penang(fvert, htrue, second, freq);
+    let p = penang::penang(&tables.fvert, &tables.htrue, second, freq);
     let delpen = p.delpen;
-    f.dmaxkm = unless(p.dead, 0.0);
-    f.dskpkm = unless(p.dead, 10000.0);
-    f.delpen = delpen;
-    walk::walk_rows(
-        delfx,
-        hpflx,
-        htflx,
-        gdflx,
-        fvflx,
-        afflx,
-        imode,
-        kind,
-        f,
+    rfx.hpflx = [0.0; 45];
+    rfx.delfx = [0.0; 45];
+    rfx.gdflx = [0.0; 45];
+    rfx.kind = [0; 45];
+    rfx.rows_this_call = 0;
+    rfx.dmaxkm = unless(p.dead, 0.0);
+    rfx.dskpkm = unless(p.dead, 10000.0);
+    rfx.delpen = delpen;
+    let e = Setup {
         nang,
         freq,
         amind,
-        jfhz,
+        jfhz: jfhz(freq),
         second,
-        third * third,
-        &delpen,
-        fvert,
-        hprim,
-        htrue,
-        afac,
-        ifob,
-    )
+        fc2: third * third,
+        delpen,
+    };
+    walk::walk_rows(rfx, &e, tables)
 }
 
-// A walk of one frequency, its rows written into the columns. A refusal leaves the columns and the figures as they came.
+// A walk of one frequency, written into the reflectrix; its looks. A refusal leaves the reflectrix as it came.
 pub fn findf_into(
-    delfx: &mut [f32; 45],
-    hpflx: &mut [f32; 45],
-    htflx: &mut [f32; 45],
-    gdflx: &mut [f32; 45],
-    fvflx: &mut [f32; 45],
-    afflx: &mut [f32; 45],
-    imode: &mut [u32; 45],
-    kind: &mut [u32; 45],
-    figures: Figures,
+    rfx: &mut Reflectrix,
     k: usize,
     nang: usize,
     freq: f32,
     amind: f32,
     fi: [[f32; 3]; 5],
-    fvert: &[f32; 30],
-    hprim: &[f32; 30],
-    htrue: &[f32; 30],
-    afac: &[f32; 30],
-    ifob: &[i32; 1200],
-) -> Outcome
-    ensures { walked_from delfx.new hpflx.new htflx.new gdflx.new fvflx.new afflx.new imode.new kind.new result ≡ findf_of (reflectrix_from delfx.old hpflx.old htflx.old gdflx.old fvflx.old afflx.old imode.old kind.old figures) (job_by k nang freq amind fi fvert.now hprim.now htrue.now afac.now ifob.now) }
+    tables: &Tables,
+) -> Result<u32, Refusal>
+    ensures { walked_with result rfx.new ≡ findf_of rfx.old (job_by k nang freq amind fi tables.now) }
 {
-    let admission = checks::admission_of(
-        k, nang, freq, amind, &fi, fvert, hprim, htrue, afac, ifob,
-    );
-    let Admission::Granted(second, third) = admission else {
-        return Outcome {
-            refusal: checks::number(admission),
-            looks: 0,
-            figures: figures,
-        };
-    };
-    started(
-        delfx, hpflx, htflx, gdflx, fvflx, afflx, imode, kind, figures, nang, freq, amind, second,
-        third, fvert, hprim, htrue, afac, ifob,
-    )
+    let (second, third) = checks::admission_of(k, nang, freq, amind, &fi, tables)?;
+    Ok(started(rfx, nang, freq, amind, second, third, tables))
 }
 
-// By value: the same over its own copies of the columns.
+// By value: the same over its own copy of the reflectrix.
 pub fn findf(
     rfx: Reflectrix,
     k: usize,
@@ -208,79 +143,21 @@ pub fn findf(
     freq: f32,
     amind: f32,
     fi: [[f32; 3]; 5],
-    fvert: [f32; 30],
-    hprim: [f32; 30],
-    htrue: [f32; 30],
-    afac: [f32; 30],
-    ifob: [i32; 1200],
+    tables: Tables,
 ) -> Walked
-    ensures { result ≡ findf_of rfx (job_by k nang freq amind fi fvert hprim htrue afac ifob) }
+    ensures { result ≡ findf_of rfx (job_by k nang freq amind fi tables) }
 {
-    let mut delfx = rfx.delfx;
-    let mut hpflx = rfx.hpflx;
-    let mut htflx = rfx.htflx;
-    let mut gdflx = rfx.gdflx;
-    let mut fvflx = rfx.fvflx;
-    let mut afflx = rfx.afflx;
-    let mut imode = rfx.imode;
-    let mut kind = rfx.kind;
-    let delpen = rfx.delpen;
-    let o = findf_into(
-        &mut delfx,
-        &mut hpflx,
-        &mut htflx,
-        &mut gdflx,
-        &mut fvflx,
-        &mut afflx,
-        &mut imode,
-        &mut kind,
-        Figures {
-            dskpkm: rfx.dskpkm,
-            delskp: rfx.delskp,
-            hpskp: rfx.hpskp,
-            htskp: rfx.htskp,
-            dmaxkm: rfx.dmaxkm,
-            fvskp: rfx.fvskp,
-            iskp: rfx.iskp,
-            delpen: delpen,
-            iaftxr: rfx.iaftxr,
-            rows_this_call: rfx.rows_this_call,
+    let mut left = rfx;
+    match findf_into(&mut left, k, nang, freq, amind, fi, &tables) {
+        Ok(looks) => Walked {
+            refusal: 0,
+            looks,
+            rfx: left,
         },
-        k,
-        nang,
-        freq,
-        amind,
-        fi,
-        &fvert,
-        &hprim,
-        &htrue,
-        &afac,
-        &ifob,
-    );
-    let f = o.figures;
-    let delpen = f.delpen;
-    Walked {
-        refusal: o.refusal,
-        looks: o.looks,
-        rfx: Reflectrix {
-            delfx: delfx,
-            hpflx: hpflx,
-            htflx: htflx,
-            gdflx: gdflx,
-            fvflx: fvflx,
-            afflx: afflx,
-            imode: imode,
-            kind: kind,
-            dskpkm: f.dskpkm,
-            delskp: f.delskp,
-            hpskp: f.hpskp,
-            htskp: f.htskp,
-            dmaxkm: f.dmaxkm,
-            fvskp: f.fvskp,
-            iskp: f.iskp,
-            delpen: delpen,
-            iaftxr: f.iaftxr,
-            rows_this_call: f.rows_this_call,
+        Err(refusal) => Walked {
+            refusal: refusal.into(),
+            looks: 0,
+            rfx: left,
         },
     }
 }

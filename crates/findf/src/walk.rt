@@ -1,24 +1,26 @@
 // Translated from hfcast-engine (commit bf34e8f9f3), src/voacap/modes.rs lines 699 to 904, and ionogram.rs lines 23 to 28, and changed.
 // The walk of findf: its labels, its state, its steps, and the loop that takes them and writes the rows.
 ghost use Rattle.std.specs.Prelude.{◌≡◌, ◌<◌, ◌≤◌};
-ghost use Rattle.findf.specs.Walk.{ANG, with_label, looked_at, layer, search_of, next_layer_of, next_cusp_of, after_of, back_of, filled_of};
+ghost use Rattle.findf.specs.Walk.{with_label, looked_at, layer, search_of, next_layer_of, next_cusp_of, after_of, back_of, filled_of};
 ghost use Rattle.findf.specs.Requires.{Entries, Safe};
 ghost use Rattle.findf.specs.Rows.{put_of};
 ghost use Rattle.findf.specs.Inputs.{inputs_of};
-ghost use Rattle.findf.specs.Findf.{walked_of};
-ghost use Rattle.findf.specs.Lent.{reflectrix_from, walked_from};
+ghost use Rattle.findf.specs.Findf.{answered, walked_of};
 
 use super::correction::Row;
 use super::look::Looked;
 use super::skip::Skip;
-use super::{Figures, Outcome, correction, look, rows, skip};
+use super::{Reflectrix, Tables, correction, look, rows, skip};
 
 // The 40 take-off angles, in degrees.
-pub(crate) const ANG: [f32; 40] = [
+const ANG: [f32; 40] = [
     0.0, 0.5, 1.0, 2.0, 3.0, 4.0, 5.0, 6.0, 8.0, 10.0, 12.0, 14.0, 16.0, 18.0, 20.0, 22.0, 24.0,
     26.0, 28.0, 30.0, 32.0, 34.0, 36.0, 38.0, 40.0, 42.0, 44.0, 46.0, 48.0, 50.0, 52.0, 54.0, 56.0,
     60.0, 65.0, 70.0, 75.0, 80.0, 85.0, 89.99,
 ];
+
+// The copy that is indexed: a constant array is written onto the stack wherever it is.
+pub(crate) static ANGLES: [f32; 40] = ANG;
 
 // The row to write: from row ih at the angle, between rows ih and ih + 1, at the layer's cusp, or as the next layer's first.
 #[derive(Clone, Copy)]
@@ -50,19 +52,22 @@ pub(crate) struct Walk {
     pub looks: u32,
 }
 
+// What the walk reads beside the tables: the job's numbers, jfhz, fi's second number, the square of its third, and the penetration angles.
+#[derive(Clone, Copy)]
+pub(crate) struct Setup {
+    pub nang: usize,
+    pub freq: f32,
+    pub amind: f32,
+    pub jfhz: u32,
+    pub second: f32,
+    pub fc2: f32,
+    pub delpen: [f32; 3],
+}
+
 fn with_label(w: Walk, l: Label) -> Walk
     ensures { result ≡ with_label w l }
 {
-    Walk {
-        label: l,
-        ia: w.ia,
-        il: w.il,
-        ih: w.ih,
-        ilow: w.ilow,
-        ihigh: w.ihigh,
-        rows: w.rows,
-        looks: w.looks,
-    }
+    Walk { label: l, ..w }
 }
 
 // An angle is taken, and the looks end at row l.ih.
@@ -70,16 +75,12 @@ fn looked_at(w: Walk, l: Looked) -> Walk
     requires { w.ia < 40 }
     ensures { result ≡ looked_at w l }
 {
-    let label = l.label;
     Walk {
-        label: label,
+        label: l.label,
         ia: w.ia + 1,
-        il: w.il,
         ih: l.ih,
-        ilow: w.ilow,
-        ihigh: w.ihigh,
-        rows: w.rows,
         looks: l.looks,
+        ..w
     }
 }
 
@@ -89,29 +90,20 @@ fn layer(w: Walk, il: usize, ih: usize, ilow: usize, ihigh: usize) -> Walk
 {
     Walk {
         label: Label::Search,
-        ia: w.ia,
-        il: il,
-        ih: ih,
-        ilow: ilow,
-        ihigh: ihigh,
-        rows: w.rows,
-        looks: w.looks,
+        il,
+        ih,
+        ilow,
+        ihigh,
+        ..w
     }
 }
 
-pub(crate) fn search(
-    ang: &[f32; 40],
-    ifob: &[i32; 1200],
-    delpen: &[f32; 3],
-    jfhz: u32,
-    nang: usize,
-    w: Walk,
-) -> Walk
-    requires { (ang.now ≡ ANG) × (Entries ifob.now × ((nang ≤ 40) × Safe w.label w)) }
-    ensures { result ≡ search_of ifob.now delpen.now jfhz nang w }
+pub(crate) fn search(e: &Setup, ifob: &[i32; 1200], w: Walk) -> Walk
+    requires { Entries ifob.now × ((e.now.nang ≤ 40) × Safe w.label w) }
+    ensures { result ≡ search_of ifob.now e.now.delpen e.now.jfhz e.now.nang w }
 {
     let il = w.il;
-    let del = delpen[il - 1];
+    let del = e.delpen[il - 1];
     if del <= 0.0 {
         return with_label(w, Label::NextLayer);
     }
@@ -119,10 +111,10 @@ pub(crate) fn search(
         return with_label(w, Label::Done);
     }
     let ia = w.ia;
-    if ia >= nang {
+    if ia >= e.nang {
         return with_label(w, Label::Done);
     }
-    if del - ang[ia] <= 0.0 {
+    if del - ANGLES[ia] <= 0.0 {
         return looked_at(
             w,
             Looked {
@@ -134,7 +126,7 @@ pub(crate) fn search(
     }
     looked_at(
         w,
-        look::looks(ifob, jfhz, ia * 30, w.ilow, w.ihigh, w.ih, w.looks),
+        look::looks(ifob, e.jfhz, ia * 30, w.ilow, w.ihigh, w.ih, w.looks),
     )
 }
 
@@ -155,6 +147,7 @@ pub(crate) fn next_layer(second: f32, w: Walk) -> Walk
     with_label(w, Label::Done)
 }
 
+#[tactic(auto, using(std::proofs::lemmas::Bool::Decides::nat_tests), unfolding(crate::specs::Walk::next_cusp_of, crate::specs::Walk::next_cusp_by))]
 pub(crate) fn next_cusp(delpen: &[f32; 3], w: Walk) -> Walk
     requires { Safe w.label w }
     ensures { result ≡ next_cusp_of delpen.now w }
@@ -170,6 +163,7 @@ pub(crate) fn next_cusp(delpen: &[f32; 3], w: Walk) -> Walk
 }
 
 // The state once the row is written: b angles are given back, and the walk goes on at l.
+#[tactic(auto, using(std::proofs::lemmas::Bool::Decides::nat_tests), unfolding(crate::specs::Walk::filled_of, crate::specs::Walk::filled_by))]
 pub(crate) fn filled(fill: Fill, b: usize, l: Label, w: Walk) -> Walk
     requires { ((b ≡ back_of fill) × (l ≡ after_of fill)) × Safe (Label.Fill fill) w }
     ensures { result ≡ filled_of fill w }
@@ -179,88 +173,41 @@ pub(crate) fn filled(fill: Fill, b: usize, l: Label, w: Walk) -> Walk
     Walk {
         label: after,
         ia: w.ia - b,
-        il: w.il,
-        ih: w.ih,
-        ilow: w.ilow,
-        ihigh: w.ihigh,
         rows: n,
-        looks: w.looks,
+        ..w
     }
 }
 
-// Row i written into the columns; the figures after it.
-fn put_row(
-    delfx: &mut [f32; 45],
-    hpflx: &mut [f32; 45],
-    htflx: &mut [f32; 45],
-    gdflx: &mut [f32; 45],
-    fvflx: &mut [f32; 45],
-    afflx: &mut [f32; 45],
-    imode: &mut [u32; 45],
-    kind: &mut [u32; 45],
-    figures: Figures,
-    i: usize,
-    t: Row,
-    s: Skip,
-    dmaxkm: f32,
-) -> Figures
+// Row i written, with the skip figures and the farthest hop after it.
+fn put_row(rfx: &mut Reflectrix, i: usize, t: Row, s: Skip, dmaxkm: f32)
     requires { i < 45 }
-    ensures { reflectrix_from delfx.new hpflx.new htflx.new gdflx.new fvflx.new afflx.new imode.new kind.new result ≡ put_of (reflectrix_from delfx.old hpflx.old htflx.old gdflx.old fvflx.old afflx.old imode.old kind.old figures) i t s dmaxkm }
+    ensures { rfx.new ≡ put_of rfx.old i t s dmaxkm }
 {
-    delfx[i] = t.del;
-    hpflx[i] = t.hp;
-    htflx[i] = t.ht;
-    gdflx[i] = t.gdr;
-    fvflx[i] = t.fv;
-    afflx[i] = t.af;
-    imode[i] = t.mode;
-    kind[i] = t.kind;
-    let delpen = figures.delpen;
-    let count = i + 1;
-    Figures {
-        dskpkm: s.dskpkm,
-        delskp: s.delskp,
-        hpskp: s.hpskp,
-        htskp: s.htskp,
-        dmaxkm: dmaxkm,
-        fvskp: s.fvskp,
-        iskp: s.iskp,
-        delpen: delpen,
-        iaftxr: count,
-        rows_this_call: count,
-    }
+    rfx.delfx[i] = t.del;
+    rfx.hpflx[i] = t.hp;
+    rfx.htflx[i] = t.ht;
+    rfx.gdflx[i] = t.gdr;
+    rfx.fvflx[i] = t.fv;
+    rfx.afflx[i] = t.af;
+    rfx.imode[i] = t.mode;
+    rfx.kind[i] = t.kind;
+    rfx.dskpkm = s.dskpkm;
+    rfx.delskp = s.delskp;
+    rfx.hpskp = s.hpskp;
+    rfx.htskp = s.htskp;
+    rfx.dmaxkm = dmaxkm;
+    rfx.fvskp = s.fvskp;
+    rfx.iskp = s.iskp;
+    rfx.iaftxr = i + 1;
+    rfx.rows_this_call = i + 1;
 }
 
-// The walk from its start to Done, a row written in place at each fill.
-pub(crate) fn walk_rows(
-    delfx: &mut [f32; 45],
-    hpflx: &mut [f32; 45],
-    htflx: &mut [f32; 45],
-    gdflx: &mut [f32; 45],
-    fvflx: &mut [f32; 45],
-    afflx: &mut [f32; 45],
-    imode: &mut [u32; 45],
-    kind: &mut [u32; 45],
-    figures: Figures,
-    nang: usize,
-    freq: f32,
-    amind: f32,
-    jfhz: u32,
-    second: f32,
-    fc2: f32,
-    delpen: &[f32; 3],
-    fvert: &[f32; 30],
-    hprim: &[f32; 30],
-    htrue: &[f32; 30],
-    afac: &[f32; 30],
-    ifob: &[i32; 1200],
-) -> Outcome
-    requires { Entries ifob.now × ((nang ≤ 40) × (jfhz ≤ 99999)) }
-    ensures { walked_from delfx.new hpflx.new htflx.new gdflx.new fvflx.new afflx.new imode.new kind.new result ≡ walked_of (inputs_of nang freq amind jfhz second fc2 delpen.now fvert.now hprim.now htrue.now afac.now ifob.now) (reflectrix_from delfx.old hpflx.old htflx.old gdflx.old fvflx.old afflx.old imode.old kind.old figures) }
+// The walk from its start to Done, a row written in place at each fill; its looks.
+pub(crate) fn walk_rows(rfx: &mut Reflectrix, e: &Setup, tables: &Tables) -> u32
+    requires { Entries tables.now.ifob × ((e.now.nang ≤ 40) × (e.now.jfhz ≤ 99999)) }
+    ensures { answered result rfx.new ≡ walked_of (inputs_of e.now tables.now) rfx.old }
 {
-    let ang = &ANG;
-    let mut ahead = correction::ahead_of(ang, 0);
-    let mut f = figures;
+    let mut ahead = correction::ahead_of(0);
     let mut w = Walk {
         label: Label::Search,
         ia: 0,
@@ -272,55 +219,28 @@ pub(crate) fn walk_rows(
         looks: 0,
     };
     loop {
-        let label = w.label;
-        match label {
+        match w.label {
             Label::Search => {
-                w = search(ang, ifob, delpen, jfhz, nang, w);
+                w = search(e, &tables.ifob, w);
             }
             Label::NextLayer => {
-                w = next_layer(second, w);
+                w = next_layer(e.second, w);
             }
             Label::NextCusp => {
-                w = next_cusp(delpen, w);
+                w = next_cusp(&e.delpen, w);
             }
             Label::Fill(fill) => {
-                let i = w.rows;
-                let il = w.il;
-                let q = rows::filling_of(
-                    ang, fvert, hprim, htrue, afac, ifob, delpen, &*delfx, second, jfhz, fill, w,
-                );
-                let raw = q.raw;
-                let after = q.after;
-                let m = correction::correction_of(raw, freq, fc2, fill, w.ia, ahead);
+                let q = rows::filling_of(e, tables, &rfx.delfx, fill, w);
+                let m = correction::correction_of(q.raw, e.freq, e.fc2, fill, w.ia, ahead);
                 // Before the arcsine, whose answer takes long: the processor works at both.
-                ahead = correction::ahead_of(ang, w.ia);
-                let t = correction::row_of(raw, m, q.mode, q.kind);
-                let s = skip::skip_of(
-                    Skip {
-                        dskpkm: f.dskpkm,
-                        delskp: f.delskp,
-                        hpskp: f.hpskp,
-                        htskp: f.htskp,
-                        fvskp: f.fvskp,
-                        iskp: f.iskp,
-                    },
-                    t,
-                    il as u32,
-                );
-                let d = skip::far(f.dmaxkm, t.gdr, t.del, amind);
-                f = put_row(
-                    delfx, hpflx, htflx, gdflx, fvflx, afflx, imode, kind, f, i, t, s, d,
-                );
-                w = filled(fill, q.back, after, w);
+                ahead = correction::ahead_of(w.ia);
+                let t = correction::row_of(q.raw, m, q.mode, q.kind);
+                let s = skip::skip_of(skip::skip_in(rfx), t, w.il as u32);
+                let d = skip::far(rfx.dmaxkm, t.gdr, t.del, e.amind);
+                put_row(rfx, w.rows, t, s, d);
+                w = filled(fill, q.back, q.after, w);
             }
-            Label::Done => {
-                let looks = w.looks;
-                return Outcome {
-                    refusal: 0,
-                    looks: looks,
-                    figures: f,
-                };
-            }
+            Label::Done => return w.looks,
         }
     }
 }

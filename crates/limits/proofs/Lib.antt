@@ -1,3 +1,4 @@
-pub mod CheckedLaws
+pub mod ChainLaws
 pub mod LimitsLaws
+pub mod RangeLaws
 pub mod Signs

@@ -1,16 +1,16 @@
 -- What a passed test tells, for callers that go on inside the range. Assumes nothing.
 use mathlib.Core.Logic.{⊎_elim}
-use Prim.Native.Nat.{ℕ, zero, suc, ◌≤◌, ◌<◌}
+use Prim.Native.Nat.{ℕ, zero, suc, ◌+◌, ◌≤◌, ◌<◌}
 use native.Mathlib.Nat.{eq-or-lt_of_le}
 use mathlib.Core.Path.{◌≡◌, refl}
-use mathlib.Core.Bool.{Bool, true, false, cond, ◌&&◌, and-eq-true_iff}
+use mathlib.Core.Bool.{Bool, true, false, ◌&&◌, and-eq-true_iff}
 use mathlib.Core.List.{List, [], ◌∷◌, ◌++◌}
 use native.Mathlib.Omega.{arith}
 use borrow.Author.Tests.{leb-true}
 use lib.Dec.{leb}
 use lib.ListN.{get_or}
 use lib.Ieee.{Float, nan}
-use Rattle.limits.specs.Limits.{broken, slots_within, layer_within, km_within, point_within, points_within}
+use Rattle.limits.specs.Limits.{broken, slots_within, count_within, layer_within, km_within, point_within, points_within}
 
 -- both tests of a range passed
 pub both : (s t : Bool) → (s && t) ≡ true → (s ≡ true) × (t ≡ true)
@@ -21,6 +21,9 @@ orders a b c d e = let t = both (leb a b) (leb c d) e in (leb-true a b t.0, leb-
 
 pub slots_within_lem : (ist lst : ℕ) → slots_within ist lst ≡ true → (1 ≤ ist) × (lst ≤ 7)
 slots_within_lem ist lst = orders 1 ist lst 7
+
+pub count_within_lem : (before added : ℕ) → count_within before added ≡ true → before + added ≤ 20
+count_within_lem before added = leb-true (before + added) 20
 
 pub layer_within_lem : (layer : ℕ) → layer_within layer ≡ true → (1 ≤ layer) × (layer ≤ 4)
 layer_within_lem layer = orders 1 layer layer 4
@@ -40,16 +43,6 @@ points_within_lem fs hs (suc n) i e h =
     ⊎_elim (λ q. rw q t.1) (λ l. points_within_lem fs hs n i t.0 l) (eq-or-lt_of_le (below n i h))
 
 -- ---- the first limit broken
-
--- by one test and what the limits after it give
-pub kept : (n : ℕ) (holds : Bool) (ls : List (ℕ × Bool)) {x : Bool} {later r : ℕ} → r ≡ cond x later n → x ≡ holds → later ≡ broken ls → r ≡ broken ((n, holds) ∷ ls)
-unfolding broken
-kept n true ls e x l = rw (e, x, l)
-kept n false ls e x l = rw (e, x)
-
-pub kept_last : (n : ℕ) (holds : Bool) {x : Bool} {r : ℕ} → r ≡ cond x 0 n → x ≡ holds → r ≡ broken ((n, holds) ∷ [])
-unfolding broken
-kept_last n holds e x = kept n holds [] e x refl
 
 -- of a list with none broken, the first limit holds and none of the others is broken
 pub unbroken : (n : ℕ) (holds : Bool) (ls : List (ℕ × Bool)) → broken ((suc n, holds) ∷ ls) ≡ 0 → (holds ≡ true) × (broken ls ≡ 0)

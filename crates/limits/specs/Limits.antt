@@ -1,10 +1,11 @@
 -- Document 01, "The bytes of a job", and the orders of document 02: the numbers of the refusals, and the ranges from 3 on, each by its sentence and a test that computes. "Ends are included."
-use Rattle.std.specs.Prelude.{ℕ, zero, suc, ◌+◌, Bool, true, false, ◌&&◌, List, [], ◌∷◌, leb, get_or, ℤ, pos, negsuc, Float}
+use Rattle.std.specs.Prelude.{ℕ, zero, suc, ◌+◌, Bool, true, false, ◌&&◌, List, [], ◌∷◌, leb, get_or, Result, Ok, Err, MatchResult, ⊤, ◌⊎◌, ◌≡◌, ◌<◌, ℤ, pos, negsuc, Float}
 use Rattle.std.specs.Int.Signed.{le_z}
 use Rattle.std.specs.Float.{nan}
 use Rattle.std.specs.Float.Ieee.{neg, le}
-use Rattle.limits.specs.declared.Checked.{Checked}
-use Rattle.limits.specs.declared.Checked.TheVariants.{Within, Broken}
+use Rattle.limits.specs.declared.NoRefusal.{NoRefusal}
+use Rattle.limits.specs.declared.Refusal.{Refusal}
+use Rattle.limits.specs.declared.Refusal.TheVariants.{Job, Answer, K, Nang, Freq, Amind, Ghop, Fi, Table, Ifob, Slots, Count, Layer, Es}
 use Rattle.arith.specs.Numbers.{0·0, 0·001, 0·1, 2·0, 3·2, 4·0, 30·0, 80·0, 90·0, 100·0, 200·0, 2000·0, 10000·0, 20100·0, 1000000·0}
 
 -- from lo to hi; "NaN never is within", and −0 lies within a range that starts at 0
@@ -16,15 +17,6 @@ unfoldable pub broken : List (ℕ × Bool) → ℕ
 broken [] = 0
 broken ((n, true) ∷ ls) = broken ls
 broken ((n, false) ∷ ls) = n
-
--- the answer of a checked group, by the number of its first limit broken, and that number
-unfoldable pub checked_by : ℕ → Checked
-checked_by zero = Within
-checked_by (suc n) = Broken (suc n)
-
-abbrev pub number_of : Checked → ℕ
-number_of Within = 0
-number_of (Broken n) = n
 
 -- 1. and 2.: the job, or the answer, has another length than its layout
 abbrev pub refusal_job : ℕ
@@ -155,3 +147,35 @@ points_within fs hs (suc i) = points_within fs hs i && point_within (get_or fs i
 
 unfoldable pub es_within : ℕ → List (List Float) → List Float → Float → Float → Float → Bool
 es_within km fs hs gcd gcdkm fsdead = km_within km && (points_within fs hs km && (gcd_within gcd && (gcdkm_within gcdkm && fs_within fsdead)))
+
+-- ---- the refusals
+
+abbrev pub number_of : Refusal → ℕ
+number_of Job = refusal_job
+number_of Answer = refusal_answer
+number_of K = refusal_k
+number_of Nang = refusal_nang
+number_of Freq = refusal_freq
+number_of Amind = refusal_amind
+number_of Ghop = refusal_ghop
+number_of Fi = refusal_fi
+number_of Table = refusal_table
+number_of Ifob = refusal_ifob
+number_of Slots = refusal_slots
+number_of Count = refusal_count
+number_of Layer = refusal_layer
+number_of Es = refusal_es
+
+-- a number decoded: the refusal that has it, or the number itself where none has
+abbrev pub Decodes : ℕ → Result Refusal NoRefusal → Type 0
+Decodes n r = MatchResult r (λ refusal. number_of refusal ≡ n) (λ e. (e.0 ≡ n) × ((n ≡ 0) ⊎ (14 < n)))
+
+-- 0 where nothing is refused, else the number
+abbrev pub code_of : {A : Type 0} → Result A Refusal → ℕ
+code_of (Ok x) = 0
+code_of (Err refusal) = number_of refusal
+
+-- one test, with what is said where it fails
+abbrev pub outcome_of : {E : Type 0} → Bool → E → Result ⊤ E
+outcome_of true e = Ok tt
+outcome_of false e = Err e

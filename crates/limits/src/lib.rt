@@ -2,74 +2,121 @@
 #![tactic(auto)]
 
 ghost use Rattle.std.specs.Prelude.{◌≡◌, ◌≤◌};
-ghost use Rattle.limits.specs.Limits.{k_within, nang_within, freq_within, amind_within, ghop_within, fi_within};
-ghost use Rattle.limits.specs.Limits.{fvert_within, hprim_within, htrue_within, afac_within, entries_within};
-ghost use Rattle.limits.specs.Limits.{slots_within, count_within, layer_within};
-ghost use Rattle.limits.specs.Limits.{km_within, hs_within, gcd_within, gcdkm_within, fs_within, point_within, points_within, es_within};
-ghost use Rattle.limits.specs.Limits.{checked_by, number_of};
-ghost use Rattle.limits.specs.Limits as meant;
+ghost use Rattle.limits.specs.Limits.{within, k_within, nang_within, fi_within, entries_within, slots_within, count_within, layer_within, km_within, point_within, points_within, es_within};
+ghost use Rattle.limits.specs.Limits.{number_of, code_of, outcome_of, Decodes};
 
-// The numbers of the refusals; those of the definitions have the same names.
-pub const REFUSAL_JOB: u32 = 1;
-
-pub const REFUSAL_ANSWER: u32 = 2;
-
-pub const REFUSAL_K: u32 = 3;
-
-pub const REFUSAL_NANG: u32 = 4;
-
-pub const REFUSAL_FREQ: u32 = 5;
-
-pub const REFUSAL_AMIND: u32 = 6;
-
-pub const REFUSAL_GHOP: u32 = 7;
-
-pub const REFUSAL_FI: u32 = 8;
-
-pub const REFUSAL_TABLE: u32 = 9;
-
-pub const REFUSAL_IFOB: u32 = 10;
-
-pub const REFUSAL_SLOTS: u32 = 11;
-
-pub const REFUSAL_COUNT: u32 = 12;
-
-pub const REFUSAL_LAYER: u32 = 13;
-
-pub const REFUSAL_ES: u32 = 14;
-
-// The answer of a checked group of limits: all hold, or the number of the first that is broken.
-#[derive(Drop)]
-pub enum Checked {
-    Within,
-    Broken(u32),
+// The limits that a job or a call may break, in the order of document 01: as u32 it is the limit's number.
+#[derive(Clone, Copy, Debug, PartialEq, Eq)]
+pub enum Refusal {
+    Job = 1,
+    Answer,
+    K,
+    Nang,
+    Freq,
+    Amind,
+    Ghop,
+    Fi,
+    Table,
+    Ifob,
+    Slots,
+    Count,
+    Layer,
+    Es,
 }
 
-#[tactic(auto, using(crate::proofs::CheckedLaws::broken_by), unfolding(crate::specs::Limits::checked_by))]
-pub fn checked_by(refusal: u32) -> Checked
-    ensures { result ≡ checked_by refusal }
-{
-    if refusal == 0 {
-        Checked::Within
-    } else {
-        Checked::Broken(refusal)
+impl From<Refusal> for u32 {
+    ghost from_gives = { λ refusal n. n ≡ number_of refusal };
+
+    fn from(refusal: Refusal) -> u32 {
+        refusal as u32
     }
 }
 
-pub fn number(c: Checked) -> u32
-    ensures { result ≡ number_of c }
-{
-    match c {
-        Checked::Within => 0,
-        Checked::Broken(n) => n,
+// A number that no limit has.
+#[derive(Clone, Copy, Debug, PartialEq, Eq)]
+pub struct NoRefusal(pub u32);
+
+impl TryFrom<u32> for Refusal {
+    type Error = NoRefusal;
+
+    ghost try_from_gives = { Decodes };
+
+    fn try_from(number: u32) -> Result<Self, NoRefusal> {
+        match number {
+            1 => Ok(Refusal::Job),
+            2 => Ok(Refusal::Answer),
+            3 => Ok(Refusal::K),
+            4 => Ok(Refusal::Nang),
+            5 => Ok(Refusal::Freq),
+            6 => Ok(Refusal::Amind),
+            7 => Ok(Refusal::Ghop),
+            8 => Ok(Refusal::Fi),
+            9 => Ok(Refusal::Table),
+            10 => Ok(Refusal::Ifob),
+            11 => Ok(Refusal::Slots),
+            12 => Ok(Refusal::Count),
+            13 => Ok(Refusal::Layer),
+            14 => Ok(Refusal::Es),
+            _ => Err(NoRefusal(number)),
+        }
     }
 }
 
-// Ends included; NaN is within no range.
-fn within(lo: f32, hi: f32, x: f32) -> bool
-    ensures { result ≡ meant.within lo hi x }
+// The limit's number, 0 where none is broken.
+pub fn code<T: Drop>(outcome: Result<T, Refusal>) -> u32
+    ensures { result ≡ code_of outcome }
 {
-    (lo <= x) & (x <= hi)
+    match outcome {
+        Ok(_) => 0,
+        Err(refusal) => refusal.into(),
+    }
+}
+
+// One limit of a group, for a chain of `?`.
+pub fn check<E: Drop>(holds: bool, broken: E) -> Result<(), E>
+    ensures { result ≡ outcome_of holds broken }
+{
+    if holds { Ok(()) } else { Err(broken) }
+}
+
+// From the first number to the second, ends included; NaN is within no range.
+#[derive(Clone, Copy, Debug, PartialEq)]
+pub struct Range(pub f32, pub f32);
+
+pub const FREQ: Range = Range(2.0, 30.0);
+
+pub const AMIND: Range = Range(0.0, 90.0);
+
+pub const GHOP: Range = Range(0.0, 4.0);
+
+// fi's second and third.
+pub const FI_2: Range = Range(0.0, 100.0);
+
+pub const FI_3: Range = Range(0.1, 100.0);
+
+pub const FVERT: Range = Range(0.0, 100.0);
+
+pub const HPRIM: Range = Range(0.0, 10000.0);
+
+pub const HTRUE: Range = Range(0.0, 2000.0);
+
+pub const AFAC: Range = Range(-1000000.0, 1000000.0);
+
+pub const HS: Range = Range(80.0, 200.0);
+
+pub const GCD: Range = Range(0.001, 3.2);
+
+pub const GCDKM: Range = Range(0.0, 20100.0);
+
+// Of each of a point's three, and of fsdead.
+pub const FS: Range = Range(0.0, 100.0);
+
+impl Range {
+    pub fn holds(&self, x: f32) -> bool
+        ensures { result ≡ within self.now.0 self.now.1 x }
+    {
+        (self.0 <= x) & (x <= self.1)
+    }
 }
 
 pub fn k_within(k: usize) -> bool
@@ -84,68 +131,22 @@ pub fn nang_within(nang: usize) -> bool
     nang <= 40
 }
 
-pub fn freq_within(freq: f32) -> bool
-    ensures { result ≡ freq_within freq }
-{
-    within(2.0, 30.0, freq)
-}
-
-pub fn amind_within(amind: f32) -> bool
-    ensures { result ≡ amind_within amind }
-{
-    within(0.0, 90.0, amind)
-}
-
-pub fn ghop_within(ghop: f32) -> bool
-    ensures { result ≡ ghop_within ghop }
-{
-    within(0.0, 4.0, ghop)
-}
-
 // Of the point that the job names; its first number may be anything.
 pub fn fi_within(second: f32, third: f32) -> bool
     ensures { result ≡ fi_within second third }
 {
-    within(0.0, 100.0, second) & within(0.1, 100.0, third)
-}
-
-pub fn fvert_within(fvert: f32) -> bool
-    ensures { result ≡ fvert_within fvert }
-{
-    within(0.0, 100.0, fvert)
-}
-
-pub fn hprim_within(hprim: f32) -> bool
-    ensures { result ≡ hprim_within hprim }
-{
-    within(0.0, 10000.0, hprim)
-}
-
-pub fn htrue_within(htrue: f32) -> bool
-    ensures { result ≡ htrue_within htrue }
-{
-    within(0.0, 2000.0, htrue)
-}
-
-pub fn afac_within(afac: f32) -> bool
-    ensures { result ≡ afac_within afac }
-{
-    within(-1000000.0, 1000000.0, afac)
+    FI_2.holds(second) & FI_3.holds(third)
 }
 
 // All 1,200 entries of ifob, without an early exit: no branch in the loop. The bits of all of them together tell whether one is below 0.
 pub fn entries_within(ifob: &[i32; 1200]) -> bool
     ensures { result ≡ entries_within ifob.now 1200 }
 {
-    let entries = &ifob[..];
-    let mut bits = 0i32;
+    let mut bits = 0;
     let mut above = false;
-    let mut i = 0usize;
-    while i < 1200 {
-        let entry = entries[i];
-        bits = bits | entry;
-        above = above | (entry > 99999);
-        i += 1;
+    for entry in ifob {
+        bits |= entry;
+        above |= *entry > 99999;
     }
     (0 <= bits) & !above
 }
@@ -156,77 +157,45 @@ pub fn slots_within(ist: usize, lst: usize) -> bool
     (1 <= ist) & (lst <= 7)
 }
 
-// The sum is made only of small numbers, so that no count, however large, overflows it.
+// A sum that saturates is above 20 too.
 pub fn count_within(before: usize, added: usize) -> bool
     ensures { result ≡ count_within before added }
 {
-    if before > 20 {
-        return false;
-    }
-    if added > 20 {
-        return false;
-    }
-    before + added <= 20
+    before.saturating_add(added) <= 20
 }
 
 pub fn layer_within(layer: usize) -> bool
     ensures { result ≡ layer_within layer }
 {
-    (1 <= layer) & (layer <= 4)
+    (1..=4).contains(&layer)
 }
 
 pub fn km_within(km: usize) -> bool
     ensures { result ≡ km_within km }
 {
-    (1 <= km) & (km <= 5)
-}
-
-pub fn hs_within(hs: f32) -> bool
-    ensures { result ≡ hs_within hs }
-{
-    within(80.0, 200.0, hs)
-}
-
-pub fn gcd_within(gcd: f32) -> bool
-    ensures { result ≡ gcd_within gcd }
-{
-    within(0.001, 3.2, gcd)
-}
-
-pub fn gcdkm_within(gcdkm: f32) -> bool
-    ensures { result ≡ gcdkm_within gcdkm }
-{
-    within(0.0, 20100.0, gcdkm)
-}
-
-// Of each of a point's three, and of fsdead.
-pub fn fs_within(fs: f32) -> bool
-    ensures { result ≡ fs_within fs }
-{
-    within(0.0, 100.0, fs)
+    (1..=5).contains(&km)
 }
 
 fn point_within(fs: &[f32; 3], hs: f32) -> bool
     ensures { result ≡ point_within fs.now hs }
 {
-    hs_within(hs) & (fs_within(fs[0]) & (fs_within(fs[1]) & fs_within(fs[2])))
+    HS.holds(hs) & (FS.holds(fs[0]) & (FS.holds(fs[1]) & FS.holds(fs[2])))
 }
 
 // The first km points. Those that are not counted may be anything.
+#[tactic(auto, unfolding(crate::specs::Limits::points_within))]
 fn points_within(fs: &[[f32; 3]; 5], hs: &[f32; 5], km: usize) -> bool
     requires { km ≤ 5 }
     ensures { result ≡ points_within fs.now hs.now km }
 {
     let mut ok = true;
-    let mut i = 0usize;
-    while i < km {
-        let point = fs[i];
-        ok = ok & point_within(&point, hs[i]);
-        i += 1;
+    for i in 0..km {
+        ok &= point_within(&fs[i], hs[i]);
     }
     ok
 }
 
+#[tactic(auto, unfolding(crate::specs::Limits::es_within))]
 pub fn es_within(
     km: usize,
     fs: &[[f32; 3]; 5],
@@ -237,9 +206,6 @@ pub fn es_within(
 ) -> bool
     ensures { result ≡ es_within km fs.now hs.now gcd gcdkm fsdead }
 {
-    if km_within(km) {
-        points_within(fs, hs, km) & (gcd_within(gcd) & (gcdkm_within(gcdkm) & fs_within(fsdead)))
-    } else {
-        false
-    }
+    km_within(km)
+        && (points_within(fs, hs, km) & (GCD.holds(gcd) & (GCDKM.holds(gcdkm) & FS.holds(fsdead))))
 }

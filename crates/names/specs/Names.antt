@@ -1,13 +1,12 @@
 -- Names as they are shown.
-use Rattle.std.specs.Prelude.{ℕ, ◌-◌, min, Bool, false, cond, ◌&&◌, ◌||◌, List, [], ◌∷◌, leb, ltb, eqb, length, drop}
+use Rattle.std.specs.Prelude.{ℕ, ◌-◌, min, Bool, false, cond, ◌&&◌, ◌||◌, List, [], ◌∷◌, leb, ltb, eqb, length, drop, map}
 
 -- a text with each byte outside 32 to 126 as `?`
 abbrev pub plain_of : ℕ → ℕ
 plain_of b = cond (leb 32 b && leb b 126) b 63
 
-unfoldable pub plains_of : List ℕ → List ℕ
-plains_of [] = []
-plains_of (b ∷ s) = plain_of b ∷ plains_of s
+abbrev pub plains_of : List ℕ → List ℕ
+plains_of = map plain_of
 
 -- a name's last part, behind the last `/`
 unfoldable pub slashed : List ℕ → Bool

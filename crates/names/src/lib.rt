@@ -1,11 +1,11 @@
 // Names as the sheet and the drawing show them: a job's and a layer's.
-#![tactic(auto)]
+#![tactic(auto, using(decimal::proofs::PageLaws::pages))]
 
-ghost use Rattle.std.specs.Prelude.{◌≡◌, ◌≤◌, length, drop};
-ghost use Rattle.decimal.specs.Wrote.{Wrote};
+ghost use Rattle.std.specs.Prelude.{◌≡◌};
+ghost use Rattle.decimal.specs.Page.{added};
 ghost use Rattle.names.specs.Names.{plain_of, plains_of, last_of, cut_of, shown_of, width_of, layer_of};
 
-use decimal::{put, text};
+use decimal::Page;
 
 // The most characters, and how many are left where there are more.
 const MOST: usize = 48;
@@ -16,87 +16,68 @@ const LEFT: usize = 45;
 fn plain(b: u8) -> u8
     ensures { result ≡ plain_of b }
 {
-    if b < 32 {
-        return b'?';
+    match b {
+        32..=126 => b,
+        _ => b'?',
     }
-    if b > 126 {
-        return b'?';
-    }
-    b
 }
 
 // A text with each byte outside 32 to 126 as `?`.
-pub fn plains(s: &[u8], out: &mut [u8], at: usize) -> usize
-    ensures wrote { Wrote out.old at (plains_of s.now) out.new result }
-    ensures upper_bound { result ≤ length out.old }
+#[tactic(auto, using(decimal::proofs::PageLaws::pages, crate::proofs::NamesLaws::plains_next))]
+pub fn plains(s: &[u8], page: &mut Page)
+    ensures { page.new ≡ added page.old (plains_of s.now) }
 {
-    let mut to = decimal::inside(at, out);
-    let mut i = 0usize;
-    while i < s.len() {
-        to = put(out, to, plain(s[i]));
-        i += 1;
+    for b in s {
+        page.put(plain(*b));
     }
-    to
 }
 
-// Where the last part begins, after the last `/`.
-fn last(name: &[u8]) -> usize
-    ensures name_value { drop result name.now ≡ last_of name.now }
-    ensures upper_bound { result ≤ length name.now }
+// The last part, after the last `/`.
+#[tactic(auto, using(crate::proofs::NamesLaws::parts))]
+fn last(name: &[u8]) -> &[u8]
+    ensures { result.now ≡ last_of name.now }
 {
-    let mut i = name.len();
-    while i > 0 {
-        if name[i - 1] == b'/' {
-            return i;
+    for i in (0..name.len()).rev() {
+        if name[i] == b'/' {
+            return &name[i + 1..];
         }
-        i -= 1;
     }
-    0
+    name
 }
 
-fn cut(part: &[u8], out: &mut [u8], at: usize) -> usize
-    ensures wrote { Wrote out.old at (cut_of part.now) out.new result }
-    ensures upper_bound { result ≤ length out.old }
+#[tactic(auto, using(decimal::proofs::PageLaws::pages, crate::proofs::NamesLaws::to_end), unfolding(crate::specs::Names::cut_of))]
+fn cut(part: &[u8], page: &mut Page)
+    ensures { page.new ≡ added page.old (cut_of part.now) }
 {
     if part.len() > MOST {
-        let a = text(out, at, b"...");
-        let from = part.len() - LEFT;
-        return plains(&part[from..], out, a);
+        page.text(b"...");
+        plains(&part[part.len() - LEFT..], page);
+    } else {
+        plains(part, page);
     }
-    plains(part, out, at)
 }
 
 // How many characters are shown of a name.
 pub fn width(name: &[u8]) -> usize
     ensures { result ≡ width_of name.now }
 {
-    let from = last(name);
-    let n = name.len() - from;
-    if n > MOST {
-        return MOST;
-    }
-    n
+    last(name).len().min(MOST)
 }
 
 // The name's last part, cut from the left to `...` and 45 characters where it has more than 48.
-pub fn shown(name: &[u8], out: &mut [u8], at: usize) -> usize
-    ensures wrote { Wrote out.old at (shown_of name.now) out.new result }
-    ensures upper_bound { result ≤ length out.old }
+pub fn shown(name: &[u8], page: &mut Page)
+    ensures { page.new ≡ added page.old (shown_of name.now) }
 {
-    let from = last(name);
-    cut(&name[from..], out, at)
+    cut(last(name), page);
 }
 
 // A layer's name, 1 E, 2 F1, else F2.
-pub fn layer(n: u32, out: &mut [u8], at: usize) -> usize
-    ensures wrote { Wrote out.old at (layer_of n) out.new result }
-    ensures upper_bound { result ≤ length out.old }
+pub fn layer(n: u32, page: &mut Page)
+    ensures { page.new ≡ added page.old (layer_of n) }
 {
-    if n == 1 {
-        return text(out, at, b"E");
+    match n {
+        1 => page.text(b"E"),
+        2 => page.text(b"F1"),
+        _ => page.text(b"F2"),
     }
-    if n == 2 {
-        return text(out, at, b"F1");
-    }
-    text(out, at, b"F2")
 }

@@ -1,42 +1,45 @@
 // What a command prints of a job: the library's answer, as the page that is asked for.
-#![tactic(auto)]
+#![tactic(auto, using(decimal::proofs::PageLaws::extends))]
 
-ghost use Rattle.std.specs.Prelude.{◌≡◌, true, ◌≤◌, length};
+ghost use Rattle.std.specs.Prelude.{◌≡◌, length};
+ghost use Rattle.decimal.specs.Page.{Extends};
 ghost use Rattle.job.specs.Job.{refusal_of, left_of};
-ghost use Rattle.system.specs.Status.{is_status};
+ghost use Rattle.system.specs.Outcome.{refusal_number};
 
 use command::Verb;
-use decimal::text;
+use decimal::Page;
+use limits::Refusal;
+use system::Refused;
+use view::View;
 
-// The library's number: 0, or that of the first limit broken.
-pub fn numbered(job: &[u8], answer: &mut [u8]) -> u32
-    ensures value { result ≡ refusal_of job.now (length answer.old) }
+// The library's answer, or the first limit broken.
+pub fn numbered(job: &[u8], answer: &mut [u8]) -> Result<(), Refused>
+    ensures value { refusal_number result ≡ refusal_of job.now (length answer.old) }
     ensures answer_after { answer.new ≡ left_of job.now answer.old }
-    ensures result_value { is_status result ≡ true }
 {
-    job::run(job, answer)
-}
-
-// What is asked for of an accepted job.
-pub fn page(verb: Verb, name: &[u8], job: &[u8], answer: &[u8], out: &mut [u8]) -> usize
-    ensures { result ≤ length out.old }
-{
-    match verb {
-        Verb::Show => sheet::sheet(name, job, answer, out),
-        Verb::Draw => drawing::drawing(name, job, answer, out),
-        Verb::Job => text(out, 0, answer),
-        Verb::Words => listing::listing(answer, out),
-        Verb::Check => accepted(name, out),
-        Verb::Ask => 0,
-        Verb::Es => 0,
-        Verb::Help => 0,
-        Verb::Unknown => 0,
+    match Refusal::try_from(job::run(job, answer)) {
+        Ok(why) => Err(Refused { why }),
+        Err(_) => Ok(()),
     }
 }
 
-fn accepted(name: &[u8], out: &mut [u8]) -> usize
-    ensures { result ≤ length out.old }
+// What is asked for of an accepted job.
+pub fn page(verb: Verb, name: &[u8], view: View, page: &mut Page)
+    ensures { Extends page.old page.new }
 {
-    let a = names::plains(name, out, 0);
-    text(out, a, b": accepted\n")
+    match verb {
+        Verb::Show => sheet::sheet(name, view, page),
+        Verb::Draw => drawing::drawing(name, view, page),
+        Verb::Job => page.text(view.answer),
+        Verb::Words => listing::listing(view.answer, page),
+        Verb::Check => accepted(name, page),
+        Verb::Ask | Verb::Es | Verb::Help => {}
+    }
+}
+
+fn accepted(name: &[u8], page: &mut Page)
+    ensures { Extends page.old page.new }
+{
+    names::plains(name, page);
+    page.text(b": accepted\n");
 }

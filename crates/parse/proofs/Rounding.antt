@@ -1,14 +1,13 @@
 -- For `over` and what it calls: the bits of the nearest f32, from a quotient of 24 digits and a count of doublings. Assumes nothing.
-use mathlib.Core.Path.{◌≡◌, refl, sym, ap, ◌∙◌, subst}
-use mathlib.Core.Bool.{Bool, true, false, not}
+use mathlib.Core.Path.{◌≡◌, refl, sym, ap, ◌∙◌}
+use mathlib.Core.Bool.{Bool, true, false}
 use mathlib.Core.Logic.{◌⊎◌, inl, inr}
-use Prim.Native.Nat.{ℕ, ◌+◌, ◌-◌, ◌*◌, ◌/◌, ◌%◌, ◌^◌, ◌≤◌, ◌<◌, compare, Ordering}
+use Prim.Native.Nat.{ℕ, ◌+◌, ◌-◌, ◌*◌, ◌/◌, ◌%◌, ◌^◌, ◌≤◌, ◌<◌, compare}
 use native.Mathlib.Nat.{zero-mul, zero-div, mul_comm, mul_assoc, mul_right_comm, le_trans, le_of_eq, le_antisymm, lt_of_not-le, lt_irrefl, lt_of_lt_of_le, lt_of_le_of_lt, eq-or-lt_of_le, mul-le-mul_right, mul-lt-mul_of_pos_right, mul-pos, le-mul_of_pos_right, le-div_iff_mul-le, div-lt_iff_lt-mul, mul-div_cancel}
 use native.Mathlib.Omega.{arith}
-use lib.Dec.{T, is_le, compare_is_eq, eqb, lit<, leb→le, nleb→lt, eqb→eq, eqb_refl}
-use lib.Arith.{lt_of_le-ne}
+use lib.Dec.{lit<}
 use lib.Pow.{pow_pos, pow_mono, pow-lt, pow-add, shl_lt, shl-shr}
-use lib.Ieee.{Float, nan, inf, fin, binary32, up, down, size, nearest, units, round, to_bits}
+use lib.Ieee.{Float, nan, inf, fin, binary32, up, down, size, units, round, to_bits}
 use lib.Ieee.Digits.{size-lt, size-le}
 use lib.Ieee.Fits.{core, round_is, nearest-le, down_pos}
 use lib.Ieee.Nearest.{closest, closest_same, nearest-ge}
@@ -26,47 +25,6 @@ times_below n t x h e k =
     let a : 2 ^ 47 ≤ 2 ^ t = pow_mono g in
     let b : 2 ^ t ≤ n * 2 ^ t = le_trans (le-mul_of_pos_right (2 ^ t) h) (le_of_eq (mul_comm (2 ^ t) n)) in
     omega arith)
-
--- ---- a quotient rounded, by how twice the rest compares
-
-abbrev Side : Ordering → ℕ → ℕ → Type 0
-Side Ordering.lt a b = a < b
-Side Ordering.eq a b = a ≡ b
-Side Ordering.gt a b = b < a
-
-side : (a b : ℕ) → Side (compare a b) a b
-side a b = go (compare a b) (leb→le a b) (nleb→lt a b) (eqb→eq a b) (λ (e : a ≡ b). subst (λ (x : ℕ). T (eqb a x)) e (eqb_refl a))
-  where
-    go : (o : Ordering) → (T (is_le o) → a ≤ b) → (T (not (is_le o)) → b < a) → (T (compare_is_eq o) → a ≡ b) → (a ≡ b → T (compare_is_eq o)) → Side o a b
-    go Ordering.lt h k e n = lt_of_le-ne (h tt) n
-    go Ordering.eq h k e n = e tt
-    go Ordering.gt h k e n = k tt
-
-module _ (q r p : ℕ) where
-  below_half : (o : Ordering) → Side o (r * 2) p → 2 * r < p → q ≡ nearest q o
-  below_half Ordering.lt s h = refl
-  below_half Ordering.eq s h = absurd (omega (arith, s))
-  below_half Ordering.gt s h = absurd (omega (arith, s))
-
-  at_half : (o : Ordering) → Side o (r * 2) p → 2 * r ≡ p → q + q % 2 ≡ nearest q o
-  at_half Ordering.lt s h = absurd (omega (arith, s))
-  at_half Ordering.eq s h = refl
-  at_half Ordering.gt s h = absurd (omega (arith, s))
-
-  above_half : (o : Ordering) → Side o (r * 2) p → p ≤ 2 * r → (2 * r ≡ p → ⊥) → q + 1 ≡ nearest q o
-  above_half Ordering.lt s h k = absurd (omega (arith, s))
-  above_half Ordering.eq s h k = absurd (k (omega (arith, s)))
-  above_half Ordering.gt s h k = omega arith
-
-module _ (n p : ℕ) where
-  pub closest_below : 2 * (n % p) < p → n / p ≡ closest n p
-  closest_below h = below_half (n / p) (n % p) p (compare (n % p * 2) p) (side (n % p * 2) p) h
-
-  pub closest_tie : 2 * (n % p) ≡ p → n / p + n / p % 2 ≡ closest n p
-  closest_tie h = at_half (n / p) (n % p) p (compare (n % p * 2) p) (side (n % p * 2) p) h
-
-  pub closest_above : p ≤ 2 * (n % p) → (2 * (n % p) ≡ p → ⊥) → n / p + 1 ≡ closest n p
-  closest_above h k = above_half (n / p) (n % p) p (compare (n % p * 2) p) (side (n % p * 2) p) h k
 
 -- ---- bits
 

@@ -5,4 +5,4 @@ mod nearest;
 mod text;
 
 pub use nearest::{radian, unit};
-pub use text::{Number, thousandths};
+pub use text::thousandths;

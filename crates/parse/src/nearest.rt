@@ -3,8 +3,9 @@ ghost use Rattle.std.specs.Prelude.{◌≡◌, ◌*◌, ◌^◌, ◌<◌, ◌≤
 ghost use Rattle.std.specs.Float.Ieee.Nearest.{closest as meant·closest};
 ghost use Rattle.parse.specs.Nearest.{nearest_of, in_units, in_radians};
 
+use std::cmp::Ordering;
+
 // A number doubled so often.
-#[derive(Drop)]
 struct Doubled {
     x: u64,
     times: u64,
@@ -34,9 +35,7 @@ fn over(n: u64, d: u64) -> u32
     if n == 0 {
         return 0;
     }
-    let doubled = doubled_to(n, d * 0x80_0000);
-    let x = doubled.x;
-    let times = doubled.times;
+    let Doubled { x, times } = doubled_to(n, d * 0x80_0000);
     ((149 - times) * 0x80_0000 + closest(x, d)) as u32
 }
 
@@ -68,11 +67,9 @@ fn closest(n: u64, p: u64) -> u64
 {
     let q = n / p;
     let r = n % p;
-    if 2 * r < p {
-        return q;
+    match (2 * r).cmp(&p) {
+        Ordering::Less => q,
+        Ordering::Equal => q + q % 2,
+        Ordering::Greater => q + 1,
     }
-    if 2 * r == p {
-        return q + q % 2;
-    }
-    q + 1
 }

@@ -2,7 +2,10 @@
 // The penetration angles of the three layers.
 #![tactic(auto)]
 
-ghost use Rattle.std.specs.Prelude.{◌≡◌};
+ghost use Rattle.std.specs.Prelude.{◌≡◌, true, false, MatchOption};
+ghost use Rattle.std.specs.Float.Ieee.{le};
+ghost use Rattle.arith.specs.Floats.{◌⊗◌};
+ghost use Rattle.angles.specs.Arccosine.{acos_of};
 ghost use Rattle.penang.specs.Penang.{frat_of, cusp_of, xm_of, cdel_of, f2_of, penang_of};
 
 use arith::{R2D, RZ};
@@ -10,7 +13,7 @@ use arith::{R2D, RZ};
 // The cosine up to which an angle is taken.
 const COS_CAP: f32 = 0.999999;
 
-// The three angles; `dead` where the Rust sets dskpkm and dmaxkm to -1.
+// The three angles, and `dead` where the Rust sets dskpkm and dmaxkm to -1. No Option: the angles are read where dead too.
 #[derive(Drop)]
 pub struct Penetration {
     pub delpen: [f32; 3],
@@ -24,15 +27,21 @@ fn frat(fv: f32, freq: f32) -> f32
     frat * frat
 }
 
+// The angle with this cosine, in degrees; none where it is above the cap, or NaN.
+fn angle(cos: f32) -> Option<f32>
+    ensures { MatchOption result (le cos COS_CAP ≡ false) (λ a. (le cos COS_CAP ≡ true) × (a ≡ acos_of cos ⊗ R2D)) }
+{
+    if cos <= COS_CAP {
+        Some(angles::acos(cos) * R2D)
+    } else {
+        None
+    }
+}
+
 fn cusp(ht: f32, frat: f32) -> f32
     ensures { result ≡ cusp_of ht frat }
 {
-    let cdel = (RZ + ht) * root::sqrt(1.0 - frat) / RZ;
-    if cdel <= COS_CAP {
-        angles::acos(cdel) * R2D
-    } else {
-        0.0
-    }
+    angle((RZ + ht) * root::sqrt(1.0 - frat) / RZ).unwrap_or(0.0)
 }
 
 fn xm(fv: f32, ht: f32, freq: f32) -> f32
@@ -68,16 +77,15 @@ fn f2(fvert: &[f32; 30], htrue: &[f32; 30], freq: f32, e: f32, f1: f32) -> Penet
         xm(fvert[28], htrue[28], freq),
         xm(fvert[29], htrue[29], freq),
     );
-    if cdel <= COS_CAP {
-        Penetration {
-            delpen: [e, f1, angles::acos(cdel) * R2D],
+    match angle(cdel) {
+        Some(f2) => Penetration {
+            delpen: [e, f1, f2],
             dead: false,
-        }
-    } else {
-        Penetration {
+        },
+        None => Penetration {
             delpen: [e, f1, 0.0],
             dead: true,
-        }
+        },
     }
 }
 

@@ -1,5 +1,5 @@
 // The plot of the drawing, in SVG: its ground, grid and axes, the lines of the lengths and the minimum angle, and their labels.
-#![tactic(auto)]
+#![tactic(auto, using(decimal::proofs::PageLaws::extends))]
 
 mod axes;
 mod lines;

@@ -9,7 +9,7 @@ ghost use Rattle.angles.specs.Arctangent.{atan_of};
 ghost use Rattle.job.specs.Job.{refusal_of, left_of};
 ghost use Rattle.esmod.specs.Esmod.{esmod_of};
 
-use esmod::EsModes;
+use esmod::{EsJob, EsModes};
 
 #[unsafe(no_mangle)]
 pub extern "C" fn ray_sin(x: f32) -> f32
@@ -66,5 +66,15 @@ pub extern "C" fn ray_esmod(
 ) -> EsModes
     ensures { result ≡ esmod_of km fs.now hs.now gcd gcdkm amind freq fsdead }
 {
-    esmod::esmod(km, *fs, *hs, gcd, gcdkm, amind, freq, fsdead)
+    let job = EsJob {
+        km,
+        fs: *fs,
+        hs: *hs,
+        gcd,
+        gcdkm,
+        amind,
+        freq,
+        fsdead,
+    };
+    job.esmod()
 }

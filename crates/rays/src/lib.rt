@@ -1,25 +1,26 @@
 // The rays in the drawing, in SVG: a dot on the line of the asked length, its number in a ring beside it, and the list of angles and layers.
-#![tactic(auto)]
+#![tactic(auto, using(decimal::proofs::PageLaws::extends))]
 
-ghost use Rattle.std.specs.Prelude.{◌+◌, ◌≤◌, ◌<◌, length};
+ghost use Rattle.std.specs.Prelude.{◌≤◌};
+ghost use Rattle.decimal.specs.Page.{Extends};
 
-use decimal::{filled, text};
+use decimal::Page;
 use job::layout;
-use view::State;
+use view::View;
 
 mod order;
 
 pub use order::highest;
-use order::{above, angle, at_rank, dot, leftward, raised};
+use order::{Slot, above, at_rank, leftward, raised};
 
 // How far a ring stands from the line.
 const ASIDE: u32 = 280;
 
 // The line of the asked length.
-fn line(job: &[u8], answer: &[u8]) -> u32
+fn line(view: View) -> u32
     ensures { (640 ≤ result) × (result ≤ 6400) }
 {
-    scale::asked_line(curve::farthest(answer), curve::in_tenths(view::asked(job)))
+    scale::asked_line(curve::farthest(view), curve::in_tenths(view.asked()))
 }
 
 fn ring_x(x: u32, i: usize) -> u32
@@ -27,197 +28,132 @@ fn ring_x(x: u32, i: usize) -> u32
     requires x_bound { x ≤ 6400 }
     ensures { result ≤ 6680 }
 {
-    if leftward(x, i) {
-        return x - ASIDE;
-    }
-    x + ASIDE
+    if leftward(x, i) { x - ASIDE } else { x + ASIDE }
 }
 
-fn ring_y(job: &[u8], answer: &[u8], x: u32, up: u32, i: usize) -> u32
-    requires { i < 6 }
+fn ring_y(view: View, x: u32, up: u32, i: usize) -> u32
     ensures { result ≤ 5350 }
 {
-    scale::min(
-        scale::ring(raised(job, answer, x, up, i), above(job, answer, x, i)),
-        scale::LOWEST_RING,
-    )
+    scale::ring(raised(view, x, up, i), above(view, x, i)).min(scale::LOWEST_RING)
 }
 
 // The places of the dot and the ring of rank i, that of the ring's number, and the number.
-fn places(job: &[u8], answer: &[u8], up: u32, i: usize) -> [u32; 6]
-    requires { i < 6 }
-{
-    let x = line(job, answer);
-    let y = ring_y(job, answer, x, up, i);
+fn places(slot: Slot, up: u32, i: usize) -> [u32; 6] {
+    let x = line(slot.view);
+    let y = ring_y(slot.view, x, up, i);
     [
         x,
-        dot(job, answer, up, i),
+        scale::ay(slot.angle(), up),
         ring_x(x, i),
         y,
         y + 45,
-        at_rank(job, answer, i) as u32 + 1,
+        slot.s as u32 + 1,
     ]
 }
 
-fn leader(job: &[u8], answer: &[u8], up: u32, i: usize, out: &mut [u8], at: usize) -> usize
-    requires { i < 6 }
+fn leader(view: View, up: u32, i: usize, page: &mut Page)
+    ensures { Extends page.old page.new }
 {
-    if at_rank(job, answer, i) == layout::SLOTS {
-        return at;
-    }
-    let v = places(job, answer, up, i);
-    filled(
-        b"<path d=\"M@At0 @Bt0L@Ct0 @Dt0\" stroke=\"#000\"/>\n",
-        &v,
-        out,
-        at,
-    )
-}
-
-fn ringed(job: &[u8], answer: &[u8], up: u32, i: usize, out: &mut [u8], at: usize) -> usize
-    requires { i < 6 }
-{
-    let s = at_rank(job, answer, i);
-    if s == layout::SLOTS {
-        return at;
-    }
-    let v = places(job, answer, up, i);
-    if angle(answer, s) <= up {
-        return filled(
-            b"<circle cx=\"@At0\" cy=\"@Bt0\" r=\"4\" stroke=\"#fff\"/>\n<circle cx=\"@Ct0\" cy=\"@Dt0\" r=\"9\" fill=\"#fff\" stroke=\"#000\" stroke-width=\"1.3\"/>\n<text x=\"@Ct0\" y=\"@Et0\" text-anchor=\"middle\" font-weight=\"bold\">@Fw0</text>\n",
-            &v,
-            out,
-            at,
+    if let Some(slot) = at_rank(view, i) {
+        page.filled(
+            b"<path d=\"M@At0 @Bt0L@Ct0 @Dt0\" stroke=\"#000\"/>\n",
+            &places(slot, up, i),
         );
     }
-    filled(
-        b"<circle cx=\"@At0\" cy=\"@Bt0\" r=\"4\" fill=\"#fff\" stroke=\"#000\" stroke-width=\"1.5\"/>\n<circle cx=\"@Ct0\" cy=\"@Dt0\" r=\"9\" fill=\"#fff\" stroke=\"#000\" stroke-width=\"1.3\"/>\n<text x=\"@Ct0\" y=\"@Et0\" text-anchor=\"middle\" font-weight=\"bold\">@Fw0</text>\n",
-        &v,
-        out,
-        at,
-    )
 }
 
-fn is_low(job: &[u8], answer: &[u8], s: usize) -> bool
-    requires { s < 6 }
+fn ringed(view: View, up: u32, i: usize, page: &mut Page)
+    ensures { Extends page.old page.new }
 {
-    if !curve::is_number(view::word(answer, layout::DELMOD + s)) {
-        return false;
-    }
-    let state = view::slot(job, answer, s);
-    match state {
-        State::Empty => false,
-        State::Ray => false,
-        State::TooLow => true,
+    if let Some(slot) = at_rank(view, i) {
+        let v = places(slot, up, i);
+        if slot.angle() <= up {
+            page.filled(
+                b"<circle cx=\"@At0\" cy=\"@Bt0\" r=\"4\" stroke=\"#fff\"/>\n",
+                &v,
+            );
+        } else {
+            page.filled(
+                b"<circle cx=\"@At0\" cy=\"@Bt0\" r=\"4\" fill=\"#fff\" stroke=\"#000\" stroke-width=\"1.5\"/>\n",
+                &v,
+            );
+        }
+        page.filled(
+            b"<circle cx=\"@Ct0\" cy=\"@Dt0\" r=\"9\" fill=\"#fff\" stroke=\"#000\" stroke-width=\"1.3\"/>\n<text x=\"@Ct0\" y=\"@Et0\" text-anchor=\"middle\" font-weight=\"bold\">@Fw0</text>\n",
+            &v,
+        );
     }
 }
 
 // A slot that is too low: a hollow dot.
-fn low(job: &[u8], answer: &[u8], up: u32, s: usize, out: &mut [u8], at: usize) -> usize
-    requires { s < 6 }
+fn low(slot: Slot, up: u32, page: &mut Page)
+    ensures { Extends page.old page.new }
 {
-    if !is_low(job, answer, s) {
-        return at;
+    if !slot.is_low() {
+        return;
     }
-    let x = line(job, answer);
-    let y = scale::ay(angle(answer, s), up);
+    let x = line(slot.view);
+    let y = scale::ay(slot.angle(), up);
+    page.filled(
+        b"<circle cx=\"@At0\" cy=\"@Bt0\" r=\"4.5\" fill=\"#fff\" stroke=\"#000\" stroke-width=\"1.5\"/>\n",
+        &[x, y],
+    );
     if x < scale::RIGHT - 600 {
-        let v = [x, y, x + 90, y - 50];
-        return filled(
-            b"<circle cx=\"@At0\" cy=\"@Bt0\" r=\"4.5\" fill=\"#fff\" stroke=\"#000\" stroke-width=\"1.5\"/>\n<text x=\"@Ct0\" y=\"@Dt0\" font-size=\"12\">too low</text>\n",
-            &v,
-            out,
-            at,
+        page.filled(
+            b"<text x=\"@At0\" y=\"@Bt0\" font-size=\"12\">too low</text>\n",
+            &[x + 90, y - 50],
+        );
+    } else {
+        page.filled(
+            b"<text x=\"@At0\" y=\"@Bt0\" font-size=\"12\" text-anchor=\"end\">too low</text>\n",
+            &[x - 90, y - 50],
         );
     }
-    let v = [x, y, x - 90, y - 50];
-    filled(
-        b"<circle cx=\"@At0\" cy=\"@Bt0\" r=\"4.5\" fill=\"#fff\" stroke=\"#000\" stroke-width=\"1.5\"/>\n<text x=\"@Ct0\" y=\"@Dt0\" font-size=\"12\" text-anchor=\"end\">too low</text>\n",
-        &v,
-        out,
-        at,
-    )
 }
 
-// What is drawn of a rank or a slot: the leader to a ring, the dot and the ring, a slot that is too low.
-#[derive(Clone, Copy)]
-enum Piece {
-    Leader,
-    Ring,
-    Low,
-}
-
-fn one(
-    piece: Piece,
-    job: &[u8],
-    answer: &[u8],
-    up: u32,
-    i: usize,
-    out: &mut [u8],
-    at: usize,
-) -> usize
-    requires { i < 6 }
+// Each rank in turn.
+fn each<F: Fn(usize, &mut Page)>(page: &mut Page, draw: F)
+    requires callable { F.IsAlwaysCallable draw }
+    requires extends { (i : _) (p : _) (q : _) → F.post draw i p tt q → Extends p.now q.now }
+    ensures { Extends page.old page.new }
 {
-    match piece {
-        Piece::Leader => leader(job, answer, up, i, out, at),
-        Piece::Ring => ringed(job, answer, up, i, out, at),
-        Piece::Low => low(job, answer, up, i, out, at),
+    for i in 0..layout::SLOTS {
+        draw(i, page);
     }
-}
-
-fn each(piece: Piece, job: &[u8], answer: &[u8], up: u32, out: &mut [u8], at: usize) -> usize {
-    let mut to = at;
-    let mut i = 0usize;
-    while i < layout::SLOTS {
-        to = one(piece, job, answer, up, i, out, to);
-        i += 1;
-    }
-    to
 }
 
 // The rays and the slots that are too low, where the axis of angles ends at `up`.
-pub fn rays(job: &[u8], answer: &[u8], up: u32, out: &mut [u8], at: usize) -> usize
-    ensures { result ≤ length out.old }
+pub fn rays(view: View, up: u32, page: &mut Page)
+    ensures { Extends page.old page.new }
 {
-    let a = each(Piece::Leader, job, answer, up, out, at);
-    let b = each(Piece::Ring, job, answer, up, out, a);
-    let c = each(Piece::Low, job, answer, up, out, b);
-    decimal::inside(c, out)
+    each(page, |i, page| leader(view, up, i, page));
+    each(page, |i, page| ringed(view, up, i, page));
+    for s in 0..layout::SLOTS {
+        low(Slot { view, s }, up, page);
+    }
 }
 
-// The list's line of slot s, where it holds a ray.
-fn listed(job: &[u8], answer: &[u8], s: usize, out: &mut [u8], at: usize) -> usize
-    requires { s < 6 }
+// The list's line of a slot, where it holds a ray.
+fn listed(slot: Slot, page: &mut Page)
+    ensures { Extends page.old page.new }
 {
-    if !order::is_ray(job, answer, s) {
-        return at;
+    if !slot.is_ray() {
+        return;
     }
-    let y = 3220 + 240 * (view::rays_before(job, answer, s) as u32);
-    let v = [
-        y,
-        y + 40,
-        s as u32 + 1,
-        view::word(answer, layout::DELMOD + s),
-    ];
-    let a = filled(
+    let y = 3220 + 240 * (slot.view.rays_before(slot.s) as u32);
+    page.filled(
         b"<circle cx=\"673\" cy=\"@At0\" r=\"9\" fill=\"#fff\" stroke=\"#000\" stroke-width=\"1.3\"/><text x=\"673\" y=\"@Bt0\" text-anchor=\"middle\" font-weight=\"bold\">@Cw0</text><text x=\"752\" y=\"@Bt0\" text-anchor=\"end\">@D3i</text><text x=\"758\" y=\"@Bt0\">deg</text><text x=\"796\" y=\"@Bt0\">",
-        &v,
-        out,
-        at,
+        &[y, y + 40, slot.s as u32 + 1, slot.bits()],
     );
-    let b = names::layer(view::word(answer, layout::ITMOD + s), out, a);
-    text(out, b, b"</text>\n")
+    names::layer(view::word(slot.view.answer, layout::ITMOD + slot.s), page);
+    page.text(b"</text>\n");
 }
 
 // The list of the rays, in the order of the slots.
-pub fn list(job: &[u8], answer: &[u8], out: &mut [u8], at: usize) -> usize
-    ensures { result ≤ length out.old }
+pub fn list(view: View, page: &mut Page)
+    ensures { Extends page.old page.new }
 {
-    let mut to = decimal::inside(at, out);
-    let mut s = 0usize;
-    while s < layout::SLOTS {
-        to = listed(job, answer, s, out, to);
-        s += 1;
+    for s in 0..layout::SLOTS {
+        listed(Slot { view, s }, page);
     }
-    decimal::inside(to, out)
 }

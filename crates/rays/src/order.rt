@@ -1,81 +1,89 @@
 // The rays from the lowest up, by rank: on which side of the line a ring stands, and how high.
-ghost use Rattle.std.specs.Prelude.{◌≡◌, ◌+◌, ◌≤◌, ◌<◌};
+ghost use Rattle.std.specs.Prelude.{◌≡◌, ◌≤◌, ◌<◌};
+ghost use Rattle.view.specs.View.{ray_at};
 ghost use Rattle.curve.specs.Rows.{largest};
-ghost use Rattle.rays.specs.Rays.{angle_of, ray_at, high_of};
+ghost use Rattle.rays.specs.Rays.{angle_of, high_of};
 
 use job::layout;
+use view::{State, View};
 
-// A slot's angle in 0.001 deg.
-pub(crate) fn angle(answer: &[u8], s: usize) -> u32
-    requires { s < 6 }
-    ensures { result ≡ angle_of answer.now s }
-{
-    curve::in_thousandths(view::word(answer, layout::DELMOD + s))
+// A slot of the answer, counted from 0.
+#[derive(Clone, Copy)]
+pub(crate) struct Slot<'a> {
+    pub(crate) view: View<'a>,
+    pub(crate) s: usize,
+    ghost is_one: { s < 6 },
 }
 
-pub(crate) fn is_ray(job: &[u8], answer: &[u8], s: usize) -> bool
-    ensures { result ≡ ray_at job.now answer.now s }
-{
-    view::is_ray(view::slot(job, answer, s)) == 1
-}
-
-// Whether slot a holds a ray that comes before slot b's: it is lower, or as high and its slot is the earlier one.
-fn before(job: &[u8], answer: &[u8], a: usize, b: usize) -> bool
-    requires a_bound { a < 6 }
-    requires b_bound { b < 6 }
-{
-    let t = angle(answer, a);
-    let u = angle(answer, b);
-    is_ray(job, answer, a) & ((t < u) | ((t == u) & (a < b)))
-}
-
-fn more(n: usize, yes: bool) -> usize
-    requires { n < 6 }
-    ensures { result ≤ n + 1 }
-{
-    if yes {
-        return n + 1;
+impl Slot<'_> {
+    // Its angle by its bits, and in 0.001 deg.
+    pub(crate) fn bits(self) -> u32 {
+        view::word(self.view.answer, layout::DELMOD + self.s)
     }
-    n
-}
 
-// How many rays come before slot s's.
-fn rank(job: &[u8], answer: &[u8], s: usize) -> usize
-    requires { s < 6 }
-    ensures { result ≤ 6 }
-{
-    let mut n = 0usize;
-    let mut a = 0usize;
-    while a < layout::SLOTS {
-        n = more(n, before(job, answer, a, s));
-        a += 1;
+    #[tactic(auto, unfolding(crate::specs::Rays::angle_of))]
+    pub(crate) fn angle(self) -> u32
+        ensures { result ≡ angle_of self.entry.view.answer.now self.entry.s }
+    {
+        curve::in_thousandths(view::word(self.view.answer, layout::DELMOD + self.s))
     }
-    n
-}
 
-// The slot of the ray of rank i; 6 where there is none.
-pub(crate) fn at_rank(job: &[u8], answer: &[u8], i: usize) -> usize
-    ensures { result ≤ 6 }
-{
-    let mut s = 0usize;
-    while s < layout::SLOTS {
-        if is_ray(job, answer, s) & (rank(job, answer, s) == i) {
-            return s;
+    pub(crate) fn is_ray(self) -> bool
+        ensures { result ≡ ray_at self.entry.view.job.now self.entry.view.answer.now self.entry.s }
+    {
+        self.view.is_ray(self.s)
+    }
+
+    pub(crate) fn is_low(self) -> bool {
+        curve::is_number(self.bits()) && self.view.slot(self.s) == State::TooLow
+    }
+
+    // Whether it holds a ray that comes before another slot's: it is lower, or as high and its slot is the earlier one.
+    fn is_before(self, other: Slot) -> bool {
+        self.is_ray() && (self.angle(), self.s) < (other.angle(), other.s)
+    }
+
+    // How many rays come before its own.
+    fn rank(self) -> usize
+        ensures { result ≤ 6 }
+    {
+        let mut n = 0;
+        for s in 0..layout::SLOTS {
+            let slot = Slot { view: self.view, s };
+            if slot.is_before(self) {
+                n += 1;
+            }
         }
-        s += 1;
+        n
     }
-    layout::SLOTS
+
+    #[tactic(auto, unfolding(crate::specs::Rays::high_of))]
+    fn high(self) -> u32
+        ensures { result ≡ high_of self.entry.view.job.now self.entry.view.answer.now self.entry.s }
+    {
+        if self.is_ray() { self.angle() } else { 0 }
+    }
+}
+
+// The slot of the ray of rank i.
+pub(crate) fn at_rank<'a>(view: View<'a>, i: usize) -> Option<Slot<'a>> {
+    for s in 0..layout::SLOTS {
+        let slot = Slot { view, s };
+        if slot.is_ray() && slot.rank() == i {
+            return Some(slot);
+        }
+    }
+    None
 }
 
 // The place of its dot.
-pub(crate) fn dot(job: &[u8], answer: &[u8], up: u32, i: usize) -> u32
+fn dot(view: View, up: u32, i: usize) -> u32
     ensures { (1260 ≤ result) × (result ≤ 5440) }
 {
-    let s = at_rank(job, answer, i);
-    if s < layout::SLOTS {
-        return scale::ay(angle(answer, s), up);
+    match at_rank(view, i) {
+        Some(slot) => scale::ay(slot.angle(), up),
+        None => scale::BOTTOM,
     }
-    scale::BOTTOM
 }
 
 // Where the line stands close to an edge all rings stand on its other side.
@@ -91,70 +99,38 @@ fn at_right(x: u32) -> bool {
 
 // Whether the ring of rank i stands on the left of the line at x: "right and left by turns from the lowest up".
 pub(crate) fn leftward(x: u32, i: usize) -> bool {
-    if at_left(x) {
-        return false;
-    }
-    at_right(x) | (i % 2 == 1)
+    !at_left(x) && (at_right(x) || i % 2 == 1)
 }
 
 fn one_side(x: u32) -> bool {
-    at_left(x) | at_right(x)
-}
-
-fn next(y: u32, yes: bool, dot: u32) -> u32 {
-    if yes {
-        return scale::lifted(y, dot);
-    }
-    y
+    at_left(x) || at_right(x)
 }
 
 // How high the ring of rank i stands above those below it on its side.
-pub(crate) fn raised(job: &[u8], answer: &[u8], x: u32, up: u32, i: usize) -> u32
-    requires { i < 6 }
-{
-    let mut y = scale::LOWEST_RING + scale::APART;
-    let mut j = 0usize;
-    while j <= i {
-        y = next(y, one_side(x) | (i % 2 == j % 2), dot(job, answer, up, j));
-        j += 1;
-    }
-    y
+pub(crate) fn raised(view: View, x: u32, up: u32, i: usize) -> u32 {
+    (0..=i).filter(|j| one_side(x) || i % 2 == *j % 2).fold(
+        scale::LOWEST_RING + scale::APART,
+        |y, j| scale::lifted(y, dot(view, up, j)),
+    )
 }
 
 // How many rings stand above that of rank i on its side.
-pub(crate) fn above(job: &[u8], answer: &[u8], x: u32, i: usize) -> u32
-    requires { i < 6 }
-{
-    let n = view::rays_before(job, answer, layout::SLOTS);
-    if n <= i + 1 {
-        return 0;
-    }
-    let left = (n - i - 1) as u32;
-    if one_side(x) {
-        return left;
-    }
-    left / 2
-}
-
-fn high(job: &[u8], answer: &[u8], s: usize) -> u32
-    requires { s < 6 }
-    ensures { result ≡ high_of job.now answer.now s }
-{
-    if is_ray(job, answer, s) {
-        return angle(answer, s);
-    }
-    0
+pub(crate) fn above(view: View, x: u32, i: usize) -> u32 {
+    let left = view
+        .rays_before(layout::SLOTS)
+        .saturating_sub(i)
+        .saturating_sub(1) as u32;
+    if one_side(x) { left } else { left / 2 }
 }
 
 // The highest ray's angle; 0 where there is none.
-pub fn highest(job: &[u8], answer: &[u8]) -> u32
-    ensures { result ≡ largest (high_of job.now answer.now) 6 }
+#[tactic(auto, using(curve::proofs::RowLaws::largest_steps))]
+pub fn highest(view: View) -> u32
+    ensures { result ≡ largest (high_of view.entry.job.now view.entry.answer.now) 6 }
 {
-    let mut top = 0u32;
-    let mut s = 0usize;
-    while s < layout::SLOTS {
-        top = scale::max(top, high(job, answer, s));
-        s += 1;
+    let mut top = 0;
+    for s in 0..layout::SLOTS {
+        top = top.max(Slot { view, s }.high());
     }
     top
 }

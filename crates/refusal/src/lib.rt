@@ -1,20 +1,21 @@
 // What is said of a job that breaks a limit: two lines, the limit and what was found.
-#![tactic(auto)]
+#![tactic(auto, using(decimal::proofs::PageLaws::extends))]
 
 mod found;
 mod sentence;
 
-ghost use Rattle.std.specs.Prelude.{◌≤◌, length};
+ghost use Rattle.decimal.specs.Page.{Extends};
 
-use decimal::{filled, text};
+use decimal::Page;
+use limits::Refusal;
 
-// The two lines, for the job that was read, whose first broken limit is `number`.
-pub fn refusal(name: &[u8], job: &[u8], number: u32, out: &mut [u8], at: usize) -> usize
-    ensures { result ≤ length out.old }
+// The two lines, for the job that was read and the first limit that it breaks.
+pub fn refusal(name: &[u8], job: &[u8], broken: Refusal, page: &mut Page)
+    ensures { Extends page.old page.new }
 {
-    let a = names::plains(name, out, at);
-    let b = filled(b": refused, limit @Aw0: ", &[number], out, a);
-    let c = sentence::sentence(number, out, b);
-    let d = text(out, c, b"\n");
-    found::found(job, number, out, d)
+    names::plains(name, page);
+    page.filled(b": refused, limit @Aw0: ", &[broken.into()]);
+    page.text(sentence::sentence(broken));
+    page.text(b"\n");
+    found::found(job, broken, page);
 }

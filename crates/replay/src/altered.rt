@@ -1,53 +1,45 @@
 // A record whose answer has one word changed must not agree.
 ghost use Rattle.std.specs.Prelude.{◌<◌, length};
 
-use super::files::Read;
-use super::kinds::Kind;
+use super::files;
 use super::tally::Tally;
-use super::{files, kinds, tally};
 use std::io;
 
-fn other(b: u8) -> u8 {
-    if b == 0 { 1 } else { b - 1 }
-}
-
 // Whether a record agrees while its byte at `at` is another.
-fn agrees_changed(kind: Kind, r: &mut [u8], at: usize) -> bool
-    requires { at < length r.old }
+fn agrees_changed<A: Fn(&[u8]) -> bool>(r: &mut [u8], at: usize, agrees: A) -> bool
+    requires inside { at < length r.old }
+    requires callable { (state : A) (x : _) → A.pre state x }
 {
     let was = r[at];
-    r[at] = other(was);
-    let agrees = kinds::agrees(kind, r);
+    r[at] = was.checked_sub(1).unwrap_or(1);
+    let same = agrees(r);
     r[at] = was;
-    agrees
+    same
 }
 
 // A record as it is, and with each word of its answer changed in its turn.
-fn each_word(kind: Kind, r: &mut [u8]) -> Tally {
-    let mut at = kinds::answer(kind);
-    let mut missed = 0u64;
-    let mut altered = 0u64;
-    while at < r.len() {
-        if agrees_changed(kind, r, at) {
-            missed += 1;
-        }
-        altered += 1;
-        at += 4;
+fn each_word<A: Fn(&[u8]) -> bool>(r: &mut [u8], answer: usize, agrees: A) -> Tally
+    requires { (state : A) (x : _) → A.pre state x }
+{
+    let mut t = Tally::of_record(agrees(r));
+    for at in (answer..r.len()).step_by(4) {
+        t += Tally::of_altered(agrees_changed(r, at, &agrees));
     }
-    Tally {
-        agree: kinds::agrees(kind, r) as u64,
-        records: 1,
-        missed,
-        altered,
-        broken: false,
-    }
+    t
 }
 
-// The file's first record.
-pub(crate) fn first<F: io::Read>(file: &mut F, kind: Kind, r: &mut [u8]) -> Tally {
+// The file's first record, whose answer begins at `answer`.
+pub(crate) fn first<F: io::Read, A: Fn(&[u8]) -> bool>(
+    file: &mut F,
+    r: &mut [u8],
+    answer: usize,
+    agrees: A,
+) -> Tally
+    requires { (state : A) (x : _) → A.pre state x }
+{
     match files::next(file, r) {
-        Read::Whole => each_word(kind, r),
-        Read::End => tally::of_records(0, 0, false),
-        Read::Broken => tally::of_records(0, 0, true),
+        Ok(true) => each_word(r, answer, agrees),
+        Ok(false) => Tally::default(),
+        Err(_) => Tally::unread(),
     }
 }

@@ -2,7 +2,11 @@
 ghost use Rattle.std.specs.Prelude.{◌≤◌};
 
 use super::record;
-use sigdis::{LayerMuf, MufHour, Probability};
+use sigdis::{LayerMuf, MufHour};
+
+pub(crate) const ANSWER: usize = 52;
+
+pub(crate) const SIZE: usize = 60;
 
 fn layer(r: &[u8], at: usize) -> LayerMuf
     requires { at ≤ 10000 }
@@ -25,10 +29,5 @@ pub(crate) fn agrees(r: &[u8]) -> bool {
         record::float(r, 40),
         record::count(r, 44),
     );
-    match p {
-        Probability::Value(x) => (words::word(r, 52) == 0) & record::is_float(r, 56, x),
-        Probability::Refused => {
-            (words::word(r, 52) == limits::REFUSAL_LAYER) & record::is_float(r, 56, 0.0)
-        }
-    }
+    (words::word(r, ANSWER) == limits::code(p)) & record::has(r, 56, p.unwrap_or(0.0))
 }

@@ -4,6 +4,10 @@ ghost use Rattle.replay.specs.Stored.{Tells, EsStored};
 
 use super::record;
 
+pub(crate) const ANSWER: usize = es_file::BYTES;
+
+pub(crate) const SIZE: usize = ANSWER + 9 * record::WORD;
+
 // The file's words; then the number, and b, hn, hp and timed of slot 4 and of slot 5.
 pub(crate) fn agrees(r: &[u8]) -> bool
     ensures { Tells result (EsStored (modes_of r.now) r.now) }
@@ -14,5 +18,5 @@ pub(crate) fn agrees(r: &[u8]) -> bool
     let slots = [
         four.b, four.hn, four.hp, four.timed, five.b, five.hn, five.hp, five.timed,
     ];
-    (words::word(r, es_file::BYTES) == m.refusal) & record::are_floats(r, 108, &slots)
+    (words::word(r, ANSWER) == m.refusal) & record::has_all(r, 108, &slots)
 }

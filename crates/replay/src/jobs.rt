@@ -18,5 +18,5 @@ pub(crate) fn agrees(r: &[u8]) -> bool {
     }
     let mut answer = [UNWRITTEN; layout::ANSWER_BYTES];
     let number = job::run(&r[0..ANSWER], &mut answer);
-    (number == words::word(r, ANSWER)) & check::same(&answer, &r[LEFT..SIZE])
+    (number == words::word(r, ANSWER)) & (answer[..] == r[LEFT..SIZE])
 }

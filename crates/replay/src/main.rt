@@ -1,73 +1,131 @@
 // Replays the oracle's stored answers and says how many agree (docs/REPLAY.md).
 #![tactic(auto)]
 
+ghost use Rattle.std.specs.Prelude.{◌≤◌};
+
 mod altered;
 mod chances;
 mod es;
 mod files;
 mod jobs;
-mod kinds;
 mod modes;
 mod named;
 mod record;
-mod say;
 mod searches;
 mod tally;
 mod walks;
 
-use kinds::Kind;
 use std::fs::File;
 use std::io;
 use std::rt::Files;
 use tally::Tally;
 
-// A file's first record, as it is and altered, then the others. One that cannot be opened cannot be read.
-fn file<R: Files + Print>(rt: &R, t: Tally, path: &str, kind: Kind) -> Tally {
-    let here = match File::open(rt, path) {
-        Ok(mut file) => of_file(&mut file, kind),
-        Err(_) => tally::of_records(0, 0, true),
+// The longest record's bytes.
+const LONGEST: usize = 9216;
+
+// A file of records of `size` bytes, whose answers begin at `answer`: the first record, as it is and altered, then the others.
+fn of_file<F: io::Read, A: Fn(&[u8]) -> bool>(
+    file: &mut F,
+    size: usize,
+    answer: usize,
+    agrees: A,
+) -> Tally
+    requires fits { size ≤ 9216 }
+    requires callable { (state : A) (x : _) → A.pre state x }
+{
+    let mut record = [0u8; LONGEST];
+    let r = &mut record[..size];
+    let mut t = altered::first(file, r, answer, &agrees);
+    t += files::tally_of(file, r, &agrees);
+    t
+}
+
+// One that cannot be opened cannot be read.
+fn file<R: Files + Print, A: Fn(&[u8]) -> bool>(
+    rt: &R,
+    path: &str,
+    size: usize,
+    answer: usize,
+    agrees: A,
+) -> Tally
+    requires fits { size ≤ 9216 }
+    requires callable { (state : A) (x : _) → A.pre state x }
+{
+    let t = match File::open(rt, path) {
+        Ok(mut file) => of_file(&mut file, size, answer, agrees),
+        Err(_) => Tally::unread(),
     };
-    say::line(rt, path.as_bytes(), here);
-    tally::plus(t, here)
+    let _ = println!(rt; "{path}: {t}");
+    t
 }
 
-fn of_file<F: io::Read>(file: &mut F, kind: Kind) -> Tally {
-    let mut record = [0u8; 9216];
-    let n = kinds::size(kind);
-    let r = &mut record[0..n];
-    let one = altered::first(file, kind, r);
-    tally::plus(one, files::tally_of(file, kind, r))
-}
-
-fn routines<R: Files + Print>(rt: &R, t: Tally) -> Tally {
-    let a = file(rt, t, "jobs_realistic", Kind::Job);
-    let b = file(rt, a, "jobs_adversarial", Kind::Job);
-    let c = file(rt, b, "jobs_limits", Kind::Job);
-    let d = file(rt, c, "findf", Kind::Findf);
-    let e = file(rt, d, "fdist", Kind::Fdist);
-    file(rt, e, "esmod", Kind::Esmod)
-}
-
-fn functions<R: Files + Print>(rt: &R, t: Tally) -> Tally {
-    let a = file(rt, t, "sqrt", Kind::Sqrt);
-    let b = file(rt, a, "sin", Kind::Sin);
-    let c = file(rt, b, "cos", Kind::Cos);
-    let d = file(rt, c, "asin", Kind::Asin);
-    let e = file(rt, d, "acos", Kind::Acos);
-    file(rt, e, "atan", Kind::Atan)
-}
-
-fn curves_and_modes<R: Files + Print>(rt: &R, t: Tally) -> Tally {
-    let a = file(rt, t, "fnorml", Kind::Fnorml);
-    let b = file(rt, a, "prbmuf", Kind::Prbmuf);
-    let c = file(rt, b, "reset", Kind::Reset);
-    file(rt, c, "accumulate", Kind::Accumulate)
+// A function of one number: its argument, then its value.
+fn function<R: Files + Print, F: Fn(f32) -> f32>(rt: &R, path: &str, f: F) -> Tally
+    requires { (state : F) (x : _) → F.pre state x }
+{
+    file(
+        rt,
+        path,
+        8,
+        4,
+        |r: &[u8]| record::has(r, 4, f(record::float(r, 0))),
+    )
 }
 
 fn main(rt: HostRuntime) {
-    let a = routines(&rt, tally::of_records(0, 0, false));
-    let b = functions(&rt, a);
-    let c = curves_and_modes(&rt, b);
-    let d = named::cases(&rt, c, "named");
-    say::line(&rt, b"total", d);
+    let mut t = Tally::default();
+    t += file(
+        &rt,
+        "jobs_realistic",
+        jobs::SIZE,
+        jobs::ANSWER,
+        jobs::agrees,
+    );
+    t += file(
+        &rt,
+        "jobs_adversarial",
+        jobs::SIZE,
+        jobs::ANSWER,
+        jobs::agrees,
+    );
+    t += file(&rt, "jobs_limits", jobs::SIZE, jobs::ANSWER, jobs::agrees);
+    t += file(&rt, "findf", walks::SIZE, walks::ANSWER, walks::agrees);
+    t += file(
+        &rt,
+        "fdist",
+        searches::SIZE,
+        searches::ANSWER,
+        searches::agrees,
+    );
+    t += file(&rt, "esmod", es::SIZE, es::ANSWER, es::agrees);
+    t += function(&rt, "sqrt", root::sqrt);
+    t += function(&rt, "sin", |x| angles::sin(x));
+    t += function(&rt, "cos", |x| angles::cos(x));
+    t += function(&rt, "asin", |x| angles::asin(x));
+    t += function(&rt, "acos", |x| angles::acos(x));
+    t += function(&rt, "atan", |x| angles::atan(x));
+    t += function(&rt, "fnorml", fnorml::fnorml);
+    t += file(
+        &rt,
+        "prbmuf",
+        chances::SIZE,
+        chances::ANSWER,
+        chances::agrees,
+    );
+    t += file(
+        &rt,
+        "reset",
+        modes::RESET_SIZE,
+        modes::RESET_ANSWER,
+        modes::reset_agrees,
+    );
+    t += file(
+        &rt,
+        "accumulate",
+        modes::ACCUMULATE_SIZE,
+        modes::ACCUMULATE_ANSWER,
+        modes::accumulate_agrees,
+    );
+    t += named::cases(&rt, "named");
+    let _ = println!(rt; "total: {t}");
 }

@@ -2,7 +2,7 @@
 ghost use Rattle.std.specs.Prelude.{◌≤◌};
 
 use super::tally::Tally;
-use super::{files, jobs, record, say, tally};
+use super::{files, jobs, record};
 use job::layout;
 use std::fs::File;
 use std::io;
@@ -30,29 +30,24 @@ fn sheet(job: &mut [u8]) {
 
 // Whether a call gave this number and left this answer.
 fn is_stored(number: u32, answer: [u8; ANSWER + 1], stored: [u8; STORED]) -> bool {
-    (number == words::word(&stored, 0)) & check::same(&answer[0..ANSWER], &stored[record::WORD..])
+    let left = &answer[0..ANSWER];
+    (number == words::word(&stored, 0)) & (left == &stored[record::WORD..])
 }
 
-fn told<P: Print>(out: &P, name: &[u8], number: u32, agrees: bool) {
-    say::text(out, name);
-    if number == 0 {
-        say::text(out, b": accepted");
+fn told<P: Print>(out: &P, name: &str, number: u32, agrees: bool) {
+    let end = if agrees { "" } else { ", and not as stored" };
+    let _ = if number == 0 {
+        println!(out; "{name}: accepted{end}")
     } else {
-        say::text(out, b": refused as ");
-        say::number(out, number as u64);
-    }
-    if !agrees {
-        say::text(out, b", and not as stored");
-    }
-    say::text(out, b"\n");
+        println!(out; "{name}: refused as {number}{end}")
+    };
 }
 
 // Runs the sheet's job, with another word and cut to a length, on an answer of a length, and holds it against what is stored next.
 fn case<F: io::Read, P: Print>(
     out: &P,
-    t: Tally,
     file: &mut F,
-    name: &[u8],
+    name: &str,
     at: usize,
     w: u32,
     length: usize,
@@ -61,72 +56,55 @@ fn case<F: io::Read, P: Print>(
     requires { (length ≤ 5361) × (room ≤ 1641) }
 {
     let mut stored = [0u8; STORED];
-    files::next(file, &mut stored);
+    let _ = files::next(file, &mut stored);
     let mut job = [0u8; JOB + 1];
     sheet(&mut job);
     words::put_word(&mut job, at, w);
     let mut answer = [jobs::UNWRITTEN; ANSWER + 1];
-    let number = job::run(&job[0..length], &mut answer[0..room]);
+    let number = job::run(&job[..length], &mut answer[..room]);
     let agrees = is_stored(number, answer, stored);
     told(out, name, number, agrees);
-    tally::plus(t, tally::of_records(agrees as u64, 1, false))
+    Tally::of_record(agrees)
 }
 
-fn limits<F: io::Read, P: Print>(out: &P, t: Tally, file: &mut F) -> Tally {
-    let a = case(out, t, file, b"nang 40", 4, 40, JOB, ANSWER);
-    let b = case(out, a, file, b"nang 41", 4, 41, JOB, ANSWER);
-    let c = case(out, b, file, b"k 4", 0, 4, JOB, ANSWER);
-    let d = case(out, c, file, b"k 5", 0, 5, JOB, ANSWER);
-    let e = case(out, d, file, b"ifob 99999", 560, 99999, JOB, ANSWER);
-    case(out, e, file, b"ifob 100000", 560, 100000, JOB, ANSWER)
+fn limits<F: io::Read, P: Print>(out: &P, file: &mut F) -> Tally {
+    let mut t = case(out, file, "nang 40", 4, 40, JOB, ANSWER);
+    t += case(out, file, "nang 41", 4, 41, JOB, ANSWER);
+    t += case(out, file, "k 4", 0, 4, JOB, ANSWER);
+    t += case(out, file, "k 5", 0, 5, JOB, ANSWER);
+    t += case(out, file, "ifob 99999", 560, 99999, JOB, ANSWER);
+    t += case(out, file, "ifob 100000", 560, 100000, JOB, ANSWER);
+    t
 }
 
-fn lengths<F: io::Read, P: Print>(out: &P, t: Tally, file: &mut F) -> Tally {
-    let a = case(out, t, file, b"job of 5,359 bytes", 0, 0, JOB - 1, ANSWER);
-    let b = case(out, a, file, b"job of 5,360 bytes", 0, 0, JOB, ANSWER);
-    let c = case(out, b, file, b"job of 5,361 bytes", 0, 0, JOB + 1, ANSWER);
-    let d = case(
-        out,
-        c,
-        file,
-        b"answer of 1,639 bytes",
-        0,
-        0,
-        JOB,
-        ANSWER - 1,
-    );
-    case(
-        out,
-        d,
-        file,
-        b"answer of 1,641 bytes",
-        0,
-        0,
-        JOB,
-        ANSWER + 1,
-    )
+fn lengths<F: io::Read, P: Print>(out: &P, file: &mut F) -> Tally {
+    let mut t = case(out, file, "job of 5,359 bytes", 0, 0, JOB - 1, ANSWER);
+    t += case(out, file, "job of 5,360 bytes", 0, 0, JOB, ANSWER);
+    t += case(out, file, "job of 5,361 bytes", 0, 0, JOB + 1, ANSWER);
+    t += case(out, file, "answer of 1,639 bytes", 0, 0, JOB, ANSWER - 1);
+    t += case(out, file, "answer of 1,641 bytes", 0, 0, JOB, ANSWER + 1);
+    t
 }
 
-fn root_of_4<P: Print>(out: &P, t: Tally) -> Tally {
+fn root_of_4<P: Print>(out: &P) -> Tally {
     let agrees = words::bits(root::sqrt(4.0)) == words::bits(2.0);
-    if agrees {
-        say::text(out, b"root of 4: 2\n");
-    } else {
-        say::text(out, b"root of 4: not 2\n");
-    }
-    tally::plus(t, tally::of_records(agrees as u64, 1, false))
+    let root = if agrees { "2" } else { "not 2" };
+    let _ = println!(out; "root of 4: {root}");
+    Tally::of_record(agrees)
 }
 
 // A file that cannot be read shows in each case: noughts are no answer.
-pub(crate) fn cases<R: Files + Print>(rt: &R, t: Tally, path: &str) -> Tally {
-    let b = match File::open(rt, path) {
-        Ok(mut file) => of_sheet(rt, t, &mut file),
-        Err(_) => of_sheet(rt, t, &mut io::empty()),
+pub(crate) fn cases<R: Files + Print>(rt: &R, path: &str) -> Tally {
+    let mut t = match File::open(rt, path) {
+        Ok(mut file) => of_sheet(rt, &mut file),
+        Err(_) => of_sheet(rt, &mut io::empty()),
     };
-    root_of_4(rt, b)
+    t += root_of_4(rt);
+    t
 }
 
-fn of_sheet<F: io::Read, P: Print>(out: &P, t: Tally, file: &mut F) -> Tally {
-    let a = limits(out, t, file);
-    lengths(out, a, file)
+fn of_sheet<F: io::Read, P: Print>(out: &P, file: &mut F) -> Tally {
+    let mut t = limits(out, file);
+    t += lengths(out, file);
+    t
 }

@@ -1,6 +1,4 @@
 // fdist by value, on slots that were used before and any reflectrix.
-ghost use Rattle.std.specs.Prelude.{◌≤◌};
-
 use super::{record, walks};
 use fdist::HopModes;
 
@@ -40,52 +38,24 @@ pub(crate) const SIZE: usize = LEFT + SLOTS;
 
 const SIX: usize = 6 * record::WORD;
 
-fn six(r: &[u8], at: usize) -> [f32; 6]
-    requires { at ≤ 10000 }
-{
-    let mut xs = [0.0f32; 6];
-    record::floats(r, at, &mut xs);
-    xs
-}
-
-fn are_six(r: &[u8], at: usize, xs: [f32; 6]) -> bool
-    requires { at ≤ 10000 }
-{
-    record::are_floats(r, at, &xs)
-}
-
-fn layers(r: &[u8], at: usize) -> [u32; 6]
-    requires { at ≤ 10000 }
-{
-    let mut ns = [0u32; 6];
-    record::naturals(r, at, &mut ns);
-    ns
-}
-
 fn slots(r: &[u8]) -> HopModes {
     HopModes {
-        delmod: six(r, DELMOD),
-        hpmod: six(r, HPMOD),
-        htmod: six(r, HTMOD),
-        fvmod: six(r, FVMOD),
-        itmod: layers(r, ITMOD),
-        afmod: six(r, AFMOD),
+        delmod: words::array_at(r, DELMOD),
+        hpmod: words::array_at(r, HPMOD),
+        htmod: words::array_at(r, HTMOD),
+        fvmod: words::array_at(r, FVMOD),
+        itmod: words::array_at(r, ITMOD),
+        afmod: words::array_at(r, AFMOD),
     }
 }
 
-fn are_slots(r: &[u8], m: HopModes) -> bool {
-    let delmod = m.delmod;
-    let hpmod = m.hpmod;
-    let htmod = m.htmod;
-    let fvmod = m.fvmod;
-    let itmod = m.itmod;
-    let afmod = m.afmod;
-    are_six(r, DELMOD, delmod)
-        & are_six(r, HPMOD, hpmod)
-        & are_six(r, HTMOD, htmod)
-        & are_six(r, FVMOD, fvmod)
-        & record::are_naturals(r, ITMOD, &itmod)
-        & are_six(r, AFMOD, afmod)
+fn are_slots(r: &[u8], m: &HopModes) -> bool {
+    record::has_all(r, DELMOD, &m.delmod)
+        & record::has_all(r, HPMOD, &m.hpmod)
+        & record::has_all(r, HTMOD, &m.htmod)
+        & record::has_all(r, FVMOD, &m.fvmod)
+        & record::has_all(r, ITMOD, &m.itmod)
+        & record::has_all(r, AFMOD, &m.afmod)
 }
 
 pub(crate) fn agrees(r: &[u8]) -> bool {
@@ -101,9 +71,8 @@ pub(crate) fn agrees(r: &[u8]) -> bool {
         record::float(r, AMIND),
         record::float(r, FREQ),
     );
-    let m = s.m;
     (words::word(r, ANSWER) == s.refusal)
         & (words::word(r, PAIRS) == s.pairs)
         & (words::word(r, RAYS) == s.rays)
-        & are_slots(left, m)
+        & are_slots(left, &s.m)
 }

@@ -1,8 +1,9 @@
 // findf by value, on a reflectrix that was used before.
-ghost use Rattle.std.specs.Prelude.{◌≤◌};
+ghost use Rattle.std.specs.Prelude.{◌<◌};
 
 use super::record;
-use findf::Reflectrix;
+use findf::{Reflectrix, Tables};
+use std::array;
 
 // A reflectrix has 374 words, in the order of its fields. Here is where each of them stands, in bytes.
 const DELFX: usize = 0;
@@ -78,87 +79,35 @@ const TABLE: usize = 30 * record::WORD;
 
 const THREE: usize = 3 * record::WORD;
 
-fn column(r: &[u8], at: usize) -> [f32; 45]
-    requires { at ≤ 10000 }
-{
-    let mut xs = [0.0f32; 45];
-    record::floats(r, at, &mut xs);
-    xs
-}
-
-fn is_column(r: &[u8], at: usize, xs: [f32; 45]) -> bool
-    requires { at ≤ 10000 }
-{
-    record::are_floats(r, at, &xs)
-}
-
-fn codes(r: &[u8], at: usize) -> [u32; 45]
-    requires { at ≤ 10000 }
-{
-    let mut ns = [0u32; 45];
-    record::naturals(r, at, &mut ns);
-    ns
-}
-
-fn are_codes(r: &[u8], at: usize, ns: [u32; 45]) -> bool
-    requires { at ≤ 10000 }
-{
-    record::are_naturals(r, at, &ns)
-}
-
-fn table(r: &[u8], at: usize) -> [f32; 30]
-    requires { at ≤ 10000 }
-{
-    let mut xs = [0.0f32; 30];
-    record::floats(r, at, &mut xs);
-    xs
-}
-
-fn entries(r: &[u8], at: usize) -> [i32; 1200]
-    requires { at ≤ 10000 }
-{
-    let mut ns = [0i32; 1200];
-    record::integers(r, at, &mut ns);
-    ns
-}
-
-fn three(r: &[u8], at: usize) -> [f32; 3]
-    requires { at ≤ 10000 }
-{
-    [
-        record::float(r, at),
-        record::float(r, at + record::WORD),
-        record::float(r, at + 2 * record::WORD),
-    ]
-}
-
-fn are_three(r: &[u8], at: usize, xs: [f32; 3]) -> bool
-    requires { at ≤ 10000 }
-{
-    record::are_floats(r, at, &xs)
-}
-
 // The five points' critical frequencies.
 fn points(r: &[u8]) -> [[f32; 3]; 5] {
-    [
-        three(r, FI),
-        three(r, FI + THREE),
-        three(r, FI + 2 * THREE),
-        three(r, FI + 3 * THREE),
-        three(r, FI + 4 * THREE),
-    ]
+    array::from_fn(
+        |point|
+            requires { point < 5 }
+        { words::array_at(r, FI + THREE * point) },
+    )
+}
+
+fn tables(r: &[u8]) -> Tables {
+    Tables {
+        fvert: words::array_at(r, FVERT),
+        hprim: words::array_at(r, HPRIM),
+        htrue: words::array_at(r, HTRUE),
+        afac: words::array_at(r, AFAC),
+        ifob: words::array_at(r, IFOB),
+    }
 }
 
 pub(crate) fn reflectrix(r: &[u8]) -> Reflectrix {
     Reflectrix {
-        delfx: column(r, DELFX),
-        hpflx: column(r, HPFLX),
-        htflx: column(r, HTFLX),
-        gdflx: column(r, GDFLX),
-        fvflx: column(r, FVFLX),
-        afflx: column(r, AFFLX),
-        imode: codes(r, IMODE),
-        kind: codes(r, KIND),
+        delfx: words::array_at(r, DELFX),
+        hpflx: words::array_at(r, HPFLX),
+        htflx: words::array_at(r, HTFLX),
+        gdflx: words::array_at(r, GDFLX),
+        fvflx: words::array_at(r, FVFLX),
+        afflx: words::array_at(r, AFFLX),
+        imode: words::array_at(r, IMODE),
+        kind: words::array_at(r, KIND),
         dskpkm: record::float(r, DSKPKM),
         delskp: record::float(r, DELSKP),
         hpskp: record::float(r, HPSKP),
@@ -166,41 +115,32 @@ pub(crate) fn reflectrix(r: &[u8]) -> Reflectrix {
         dmaxkm: record::float(r, DMAXKM),
         fvskp: record::float(r, FVSKP),
         iskp: words::word(r, ISKP),
-        delpen: three(r, DELPEN),
+        delpen: words::array_at(r, DELPEN),
         iaftxr: record::count(r, IAFTXR),
         rows_this_call: record::count(r, ROWS),
     }
 }
 
-fn are_columns(r: &[u8], rfx: Reflectrix) -> bool {
-    let delfx = rfx.delfx;
-    let hpflx = rfx.hpflx;
-    let htflx = rfx.htflx;
-    let gdflx = rfx.gdflx;
-    let fvflx = rfx.fvflx;
-    let afflx = rfx.afflx;
-    let imode = rfx.imode;
-    let kind = rfx.kind;
-    is_column(r, DELFX, delfx)
-        & is_column(r, HPFLX, hpflx)
-        & is_column(r, HTFLX, htflx)
-        & is_column(r, GDFLX, gdflx)
-        & is_column(r, FVFLX, fvflx)
-        & is_column(r, AFFLX, afflx)
-        & are_codes(r, IMODE, imode)
-        & are_codes(r, KIND, kind)
+fn are_columns(r: &[u8], rfx: &Reflectrix) -> bool {
+    record::has_all(r, DELFX, &rfx.delfx)
+        & record::has_all(r, HPFLX, &rfx.hpflx)
+        & record::has_all(r, HTFLX, &rfx.htflx)
+        & record::has_all(r, GDFLX, &rfx.gdflx)
+        & record::has_all(r, FVFLX, &rfx.fvflx)
+        & record::has_all(r, AFFLX, &rfx.afflx)
+        & record::has_all(r, IMODE, &rfx.imode)
+        & record::has_all(r, KIND, &rfx.kind)
 }
 
-fn are_figures(r: &[u8], rfx: Reflectrix) -> bool {
-    let delpen = rfx.delpen;
-    record::is_float(r, DSKPKM, rfx.dskpkm)
-        & record::is_float(r, DELSKP, rfx.delskp)
-        & record::is_float(r, HPSKP, rfx.hpskp)
-        & record::is_float(r, HTSKP, rfx.htskp)
-        & record::is_float(r, DMAXKM, rfx.dmaxkm)
-        & record::is_float(r, FVSKP, rfx.fvskp)
+fn are_figures(r: &[u8], rfx: &Reflectrix) -> bool {
+    record::has(r, DSKPKM, rfx.dskpkm)
+        & record::has(r, DELSKP, rfx.delskp)
+        & record::has(r, HPSKP, rfx.hpskp)
+        & record::has(r, HTSKP, rfx.htskp)
+        & record::has(r, DMAXKM, rfx.dmaxkm)
+        & record::has(r, FVSKP, rfx.fvskp)
         & (words::word(r, ISKP) == rfx.iskp)
-        & are_three(r, DELPEN, delpen)
+        & record::has_all(r, DELPEN, &rfx.delpen)
         & (record::count(r, IAFTXR) == rfx.iaftxr)
         & (record::count(r, ROWS) == rfx.rows_this_call)
 }
@@ -217,15 +157,10 @@ pub(crate) fn agrees(r: &[u8]) -> bool {
         record::float(r, FREQ),
         record::float(r, AMIND),
         points(r),
-        table(r, FVERT),
-        table(r, HPRIM),
-        table(r, HTRUE),
-        table(r, AFAC),
-        entries(r, IFOB),
+        tables(r),
     );
-    let rfx = w.rfx;
     (words::word(r, ANSWER) == w.refusal)
         & (words::word(r, LOOKS) == w.looks)
-        & are_columns(left, rfx)
-        & are_figures(left, rfx)
+        & are_columns(left, &w.rfx)
+        & are_figures(left, &w.rfx)
 }

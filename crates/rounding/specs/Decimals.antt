@@ -1,7 +1,7 @@
 -- What the printed numbers mean: the text of a whole number and of an f32, as a list of ASCII codes.
-use Rattle.std.specs.Prelude.{ℕ, zero, suc, ◌+◌, ◌-◌, ◌*◌, ◌/◌, ◌%◌, ◌^◌, min, Bool, ◌&&◌, cond, List, [], ◌∷◌, ◌++◌, ltb, leb, eqb, length, replicate}
+use Rattle.std.specs.Prelude.{ℕ, zero, suc, ◌+◌, ◌-◌, ◌*◌, ◌/◌, ◌%◌, ◌^◌, min, Bool, true, false, ◌&&◌, cond, List, [], ◌∷◌, ◌++◌, ltb, leb, eqb, length, replicate}
 use Rattle.rounding.specs.declared.Shown.{Shown}
-use Rattle.rounding.specs.declared.Shown.TheVariants.{Named, Bound, Number}
+use Rattle.rounding.specs.declared.Shown.TheVariants.{Nan, Infinity, Bound, Number}
 
 -- "Rounded to the nearest, ties to even, from the exact value of the bits, by whole numbers alone."
 -- n / p rounded to the nearest whole number, and to the even one where two are as near
@@ -109,6 +109,7 @@ tenths_text n = cond (eqb (n % 10) 0) (decimal (n / 10)) (fixed 1 n)
 
 -- the same by cases: what is to be shown, and its text
 abbrev pub text_of : ℕ → Shown → List ℕ
-text_of width (Named nan below) = named_text nan below
+text_of width Nan = named_text true false
+text_of width (Infinity below) = named_text false below
 text_of width (Bound below) = bound_text below width
 text_of width (Number below n places) = signed below (min places 3) n

@@ -3,19 +3,36 @@
 
 mod sized;
 
-ghost use Rattle.std.specs.Prelude.{◌≡◌, ◌<◌, ◌≤◌, ◌^◌, min, length};
-ghost use Rattle.rounding.specs.Decimals.{signed, size_of, shown_in, float_text, text_of};
+ghost use Rattle.std.specs.Prelude.{◌≡◌, ◌<◌, ◌≤◌, ◌^◌, min, length, IfSome, MatchOption};
+ghost use Rattle.rounding.specs.Decimals.{signed, size_of, shown_in, float_text, text_of, fraction_of, exponent_of, significand, field};
 ghost use Rattle.rounding.specs.Decimals as meant;
 
 pub use sized::{tenths_of, thousandths_of};
 
-// What is to be shown of a float: NaN or else an infinity; a bound, since it is too long; or so many units of 10 ^ -places.
-// The bool `below` says that it is below 0.
-#[derive(Drop)]
+// What is to be shown of a float: a name; a bound, since it is too long; or so many units of 10 ^ -places. `below` says that it is below 0.
+#[derive(Clone, Copy, Debug, PartialEq, Eq)]
 pub enum Shown {
-    Named(bool, bool),
-    Bound(bool),
-    Number(bool, u64, usize),
+    Nan,
+    Infinity {
+        below: bool,
+    },
+    Bound {
+        below: bool,
+    },
+    Number {
+        below: bool,
+        units: u64,
+        places: usize,
+    },
+}
+
+// The size of a float below 2 ^ 49, significand * 2 ^ (field - 150): a subnormal has the exponent's field 1.
+#[derive(Clone, Copy)]
+pub(crate) struct Magnitude {
+    significand: u64,
+    field: u64,
+    ghost significand_bound: { significand < 2 ^ 24 },
+    ghost field_bound: { field < 176 },
 }
 
 // n / p, to the nearest, ties to even.
@@ -33,21 +50,62 @@ fn nearest(n: u64, p: u64) -> u64
     q
 }
 
-// The float of significand m and exponent field e, times t, to the nearest whole number.
-fn units(m: u64, e: u64, t: u64) -> u64
-    requires m_bound { m < 2 ^ 24 }
-    requires e_bound { e < 176 }
-    requires t_bound { t < 2 ^ 10 }
-    ensures { result ≡ meant.units m e t }
-{
-    let n = m * t;
-    if e < 150 {
-        if e < 100 {
-            return 0;
+impl Magnitude {
+    // By the float's bits: none of an infinity, of NaN, and from 2 ^ 49 on.
+    pub(crate) fn of(w: u32) -> Option<Magnitude>
+        ensures near { MatchOption result (175 < exponent_of w) (λ x. exponent_of w ≤ 175) }
+        ensures significand { IfSome result (λ x. x.significand ≡ significand (fraction_of w) (exponent_of w)) }
+        ensures field { IfSome result (λ x. x.field ≡ field (exponent_of w)) }
+    {
+        let f = (w % 0x80_0000) as u64;
+        let e = (w / 0x80_0000 % 0x100) as u64;
+        if e > 175 {
+            None
+        } else if e == 0 {
+            Some(Magnitude {
+                significand: f,
+                field: 1,
+            })
+        } else {
+            Some(Magnitude {
+                significand: f + 0x80_0000,
+                field: e,
+            })
         }
-        return nearest(n, 1 << (150 - e));
     }
-    n << (e - 150)
+
+    // Times t, to the nearest whole number.
+    pub(crate) fn units(self, t: u64) -> u64
+        requires { t < 2 ^ 10 }
+        ensures { result ≡ meant.units self.significand self.field t }
+    {
+        let n = self.significand * t;
+        if self.field < 100 {
+            0
+        } else if self.field < 150 {
+            nearest(n, 1 << (150 - self.field))
+        } else {
+            n << (self.field - 150)
+        }
+    }
+
+    // With as many decimals as fit, `places` at most.
+    fn fitting(self, below: bool, width: usize, places: usize) -> Shown
+        requires { places ≤ 3 }
+        ensures { text_of width result ≡ shown_in below self.significand self.field width places }
+    {
+        for left in (0..places + 1).rev() {
+            let units = self.units(power(left));
+            if columns(below, units, left) <= width {
+                return Shown::Number {
+                    below,
+                    units,
+                    places: left,
+                };
+            }
+        }
+        Shown::Bound { below }
+    }
 }
 
 // 10 to the power of `places`, 3 at most.
@@ -56,28 +114,14 @@ pub fn power(places: usize) -> u64
     ensures result_nonzero { 0 < result }
     ensures upper_bound { result < 2 ^ 10 }
 {
-    if places == 0 {
-        1
-    } else if places == 1 {
-        10
-    } else if places == 2 {
-        100
-    } else {
-        1000
-    }
+    10u64.pow(places.min(3) as u32)
 }
 
 // How many digits n has.
 pub fn size(n: u64) -> usize
     ensures { result ≡ size_of n }
 {
-    let mut k = 1usize;
-    let mut rest = n;
-    while rest >= 10 {
-        rest = rest / 10;
-        k += 1;
-    }
-    k
+    n.max(1).ilog10() as usize + 1
 }
 
 // The columns of a point and `places` digits, 3 at most.
@@ -85,15 +129,7 @@ fn point(places: usize) -> usize
     ensures value { result ≡ length (meant.point (min places 3) 0) }
     ensures upper_bound { result ≤ 4 }
 {
-    if places == 0 {
-        0
-    } else if places == 1 {
-        2
-    } else if places == 2 {
-        3
-    } else {
-        4
-    }
+    if places == 0 { 0 } else { places.min(3) + 1 }
 }
 
 // The columns of n units of 10 ^ -places, with a minus where it is below 0.
@@ -101,58 +137,22 @@ pub fn columns(below: bool, n: u64, places: usize) -> usize
     ensures { result ≡ length (signed below (min places 3) n) }
 {
     let all = size(n / power(places)) + point(places);
-    if below {
-        if n > 0 {
-            return all + 1;
-        }
-    }
-    all
-}
-
-// With as many decimals as fit, `places` at most.
-fn fitting(below: bool, m: u64, e: u64, width: usize, places: usize) -> Shown
-    requires m_bound { m < 2 ^ 24 }
-    requires e_bound { e < 176 }
-    requires places_bound { places ≤ 3 }
-    ensures { text_of width result ≡ shown_in below m e width places }
-{
-    let mut left = places;
-    loop {
-        let n = units(m, e, power(left));
-        if columns(below, n, left) <= width {
-            return Shown::Number(below, n, left);
-        }
-        if left == 0 {
-            return Shown::Bound(below);
-        }
-        left -= 1;
-    }
-}
-
-// places, 3 at most.
-pub fn up_to_three(places: usize) -> usize
-    ensures value { result ≡ min places 3 }
-    ensures upper_bound { result ≤ 3 }
-{
-    if places < 3 { places } else { 3 }
+    if below && n > 0 { all + 1 } else { all }
 }
 
 // What is to be shown of a float by its bits, with at most `places` decimals in at most `width` columns.
 pub fn rounded(w: u32, places: usize, width: usize) -> Shown
     ensures { text_of width result ≡ float_text w places width }
 {
-    let f = (w % 0x80_0000) as u64;
-    let e = (w / 0x80_0000 % 0x100) as u64;
     let below = w >= 0x8000_0000;
-    if e == 255 {
-        return Shown::Named(f > 0, below);
+    if let Some(x) = Magnitude::of(w) {
+        return x.fitting(below, width, places.min(3));
     }
-    if e > 175 {
-        return Shown::Bound(below);
+    if w / 0x80_0000 % 0x100 < 255 {
+        Shown::Bound { below }
+    } else if w % 0x80_0000 > 0 {
+        Shown::Nan
+    } else {
+        Shown::Infinity { below }
     }
-    let most = up_to_three(places);
-    if e == 0 {
-        return fitting(below, f, 1, width, most);
-    }
-    fitting(below, f + 0x80_0000, e, width, most)
 }

@@ -2,31 +2,17 @@
 ghost use Rattle.std.specs.Prelude.{◌≡◌, ◌<◌, ◌^◌, min};
 ghost use Rattle.rounding.specs.Decimals.{units_of};
 
-use crate::units;
-
-fn at_most(n: u64, most: u32) -> u32
-    ensures { result ≡ min n most }
-{
-    if n <= most as u64 {
-        return n as u32;
-    }
-    most
-}
+use crate::Magnitude;
 
 fn sized(w: u32, t: u64, most: u32) -> u32
     requires t_nonzero { 0 < t }
     requires t_bound { t < 2 ^ 10 }
     ensures { result ≡ min (units_of w t) most }
 {
-    let f = (w % 0x80_0000) as u64;
-    let e = (w / 0x80_0000 % 0x100) as u64;
-    if e == 0 {
-        return at_most(units(f, 1, t), most);
+    match Magnitude::of(w) {
+        Some(x) => x.units(t).min(most as u64) as u32,
+        None => most,
     }
-    if e > 175 {
-        return most;
-    }
-    at_most(units(f + 0x80_0000, e, t), most)
 }
 
 // In tenths, to the nearest; `most` where it is more, or no number.

@@ -1,2 +1,1 @@
 pub mod ScaleLaws
-mod Table

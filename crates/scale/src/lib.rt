@@ -2,8 +2,8 @@
 // Lengths in 0.1 km, angles in 0.001 deg, places in 0.1 px.
 #![tactic(auto)]
 
-ghost use Rattle.std.specs.Prelude.{◌≡◌, ◌+◌, ◌-◌, ◌*◌, ◌/◌, ◌<◌, ◌≤◌, min, max};
-ghost use Rattle.scale.specs.Scale.{step_at, Least, Marked, beyond_of, across_of, up_of, part_of, ax_of, ay_of, lifted_of, ring_of};
+ghost use Rattle.std.specs.Prelude.{◌≡◌, ◌+◌, ◌*◌, ◌/◌, ◌<◌, ◌≤◌, min, max};
+ghost use Rattle.scale.specs.Scale.{Least, Marked, beyond_of, across_of, up_of, part_of, ax_of, ay_of, lifted_of, ring_of};
 
 // The plot's edges.
 pub const LEFT: u32 = 640;
@@ -30,75 +30,60 @@ const STEPS: [u32; 21] = [
     200_000, 500_000, 1_000_000, 2_000_000, 5_000_000,
 ];
 
-pub fn min(a: u32, b: u32) -> u32
-    ensures { result ≡ min a b }
-{
-    if a <= b {
-        return a;
-    }
-    b
+// How an axis is marked: the unit of its steps, and how many of them it takes at most.
+#[derive(Clone, Copy)]
+struct Marking {
+    unit: u32,
+    most: u32,
+    ghost unit_bound: { (10 ≤ unit) × (unit ≤ 1000) },
+    ghost most_bound: { (8 ≤ most) × (most ≤ 10) },
 }
 
-pub fn max(a: u32, b: u32) -> u32
-    ensures { result ≡ max a b }
+// Steps of 1 km, and of 1 deg.
+const ACROSS: Marking = Marking { unit: 10, most: 8 };
+
+const UP: Marking = Marking {
+    unit: 1000,
+    most: 10,
+};
+
+// a * b: it always fits.
+fn product(a: u32, b: u32) -> u64
+    ensures { result ≡ a * b }
 {
-    if a <= b {
-        return b;
-    }
-    a
+    (a as u64) * (b as u64)
 }
 
-fn step_at(k: usize) -> u32
-    requires { k < 21 }
-    ensures value { result ≡ step_at k }
-    ensures lower_bound { (1 ≤ result) × (result ≤ 5000000) }
-{
-    STEPS[k]
-}
-
-// most steps, in the axis's unit.
-fn reach(most: u32, step: u32) -> u64
-    requires most_bound { most ≤ 10000 }
-    requires step_bound { step ≤ 5000000 }
-    ensures { result ≡ most * step }
-{
-    (most as u64) * (step as u64)
-}
-
+// The least step of which `most` reach the top.
 fn step_for(top: u32, most: u32) -> u32
     requires top_bound { top ≤ 102000000 }
-    requires le_most { 80 ≤ most }
-    requires most_bound { most ≤ 10000 }
+    requires most_bound { 80 ≤ most }
     ensures least { Least top most result }
-    ensures lower_bound { (1 ≤ result) × (result ≤ 5000000) }
+    ensures result_nonzero { 1 ≤ result }
 {
-    let mut k = 0usize;
-    while k < 20 {
-        let s = step_at(k);
-        if (top as u64) <= reach(most, s) {
-            return s;
+    for step in STEPS {
+        if (top as u64) <= product(most, step) {
+            return step;
         }
-        k += 1;
     }
-    step_at(20)
+    // The last reaches every top.
+    STEPS[20]
 }
 
-// The axis up to the top.
-fn marked(unit: u32, most: u32, top: u32) -> Axis
-    requires le_unit { 10 ≤ unit }
-    requires unit_bound { unit ≤ 1000 }
-    requires le_most { 8 ≤ most }
-    requires most_bound { most ≤ 10 }
-    requires top_bound { top ≤ 102000000 }
-    ensures { Marked unit most top result }
-{
-    let step = step_for(top, unit * most);
-    let one = reach(unit, step);
-    let count = ((top as u64) + one - 1) / one;
-    Axis {
-        step,
-        count: count as u32,
-        end: (one * count) as u32,
+impl Marking {
+    // The axis up to the top.
+    fn up_to(self, top: u32) -> Axis
+        requires { top ≤ 102000000 }
+        ensures { Marked self.unit self.most top result }
+    {
+        let step = step_for(top, self.unit * self.most);
+        let one = product(self.unit, step);
+        let count = (top as u64).div_ceil(one);
+        Axis {
+            step,
+            count: count as u32,
+            end: (one * count) as u32,
+        }
     }
 }
 
@@ -107,7 +92,7 @@ fn over(far: u32) -> u32
     ensures value { result ≡ max far 10 + far / 50 }
     ensures upper_bound { result ≤ 102000000 }
 {
-    max(far, 10) + far / 50
+    far.max(10) + far / 50
 }
 
 // Whether the asked length is put at the right edge.
@@ -121,20 +106,20 @@ pub fn beyond(far: u32, asked: u32) -> bool
 pub fn across(far: u32, asked: u32) -> Axis
     ensures { Marked 10 8 (across_of (min far 100000000) (min asked 100000000)) result }
 {
-    let far = min(far, LONGEST);
-    let asked = min(asked, LONGEST);
+    let far = far.min(LONGEST);
+    let asked = asked.min(LONGEST);
     if beyond(far, asked) {
-        return marked(10, 8, over(far));
+        return ACROSS.up_to(over(far));
     }
-    marked(10, 8, over(max(far, asked)))
+    ACROSS.up_to(over(far.max(asked)))
 }
 
 // The axis of angles: `high` is the highest to be shown.
 pub fn up(high: u32) -> Axis
     ensures { Marked 1000 10 (up_of (min high 90000)) result }
 {
-    let top = max(min(high, 90_000), 9_500) + 500;
-    marked(1000, 10, min(top, 90_000))
+    let top = high.min(90_000).max(9_500) + 500;
+    UP.up_to(top.min(90_000))
 }
 
 // width * g / end, to the nearest; g is at most the end.
@@ -146,8 +131,7 @@ fn part(width: u32, g: u32, end: u32) -> u32
     if end == 0 {
         return 0;
     }
-    let g = min(g, end);
-    let n = (width as u64) * (2 * (g as u64)) + (end as u64);
+    let n = 2 * product(width, g.min(end)) + (end as u64);
     (n / (2 * (end as u64))) as u32
 }
 
@@ -184,38 +168,16 @@ pub const HIGHEST_RING: u32 = TOP + 90;
 
 pub const APART: u32 = 190;
 
-// a - b, or 0.
-pub fn minus(a: u32, b: u32) -> u32
-    ensures { result ≡ a - b }
-{
-    if b <= a {
-        return a - b;
-    }
-    0
-}
-
 // The place of a ring before there is room above it: `last` is that of the one below it on its side.
 pub fn lifted(last: u32, y: u32) -> u32
     ensures { result ≡ lifted_of last y }
 {
-    min(y, minus(last, APART))
+    y.min(last.saturating_sub(APART))
 }
 
 // The place of a ring that has so many above it on its side.
 pub fn ring(y: u32, above: u32) -> u32
     ensures { result ≡ ring_of y above }
 {
-    let above = min(above, 5);
-    max(y, HIGHEST_RING + APART * above)
-}
-
-// The product, or the largest number.
-pub fn times(a: u32, b: u32) -> u32
-    ensures { result ≡ min (a * b) 4294967295 }
-{
-    let n = (a as u64) * (b as u64);
-    if n <= 0xffff_ffff {
-        return n as u32;
-    }
-    0xffff_ffff
+    y.max(HIGHEST_RING + APART * above.min(5))
 }

@@ -1,25 +1,27 @@
 // The service sheet of a job and its answer, as text.
-#![tactic(auto)]
+#![tactic(auto, using(decimal::proofs::PageLaws::extends))]
 
-ghost use Rattle.std.specs.Prelude.{◌≤◌, length};
+ghost use Rattle.decimal.specs.Page.{Extends};
 
 mod head;
 
-// The sheet with this heading from `at` on; where it ends. Order 3 has a heading for each point.
-fn page(heading: &[u8], name: &[u8], job: &[u8], answer: &[u8], out: &mut [u8], at: usize) -> usize
-    ensures { result ≤ length out.old }
+use decimal::Page;
+use view::View;
+
+// The sheet with this heading. Order 3 has a heading for each point.
+fn page(heading: &[u8], name: &[u8], view: View, page: &mut Page)
+    ensures { Extends page.old page.new }
 {
-    let a = head::title(heading, name, out, at);
-    let b = head::said(job, answer, out, a);
-    let c = head::asked(job, answer, out, b);
-    let d = tables::slots(job, answer, out, c);
-    let e = tables::rows(job, answer, out, d);
-    tables::last(answer, out, e)
+    head::title(heading, name, page);
+    head::said(view, page);
+    head::asked(view, page);
+    tables::slots(view, page);
+    tables::rows(view, page);
+    tables::last(view, page);
 }
 
-// The sheet at the start of out; where it ends.
-pub fn sheet(name: &[u8], job: &[u8], answer: &[u8], out: &mut [u8]) -> usize
-    ensures { result ≤ length out.old }
+pub fn sheet(name: &[u8], view: View, page: &mut Page)
+    ensures { Extends page.old page.new }
 {
-    page(b"SERVICE SHEET", name, job, answer, out, 0)
+    self::page(b"SERVICE SHEET", name, view, page);
 }

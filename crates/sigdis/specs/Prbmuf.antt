@@ -1,15 +1,15 @@
 -- The chance that a frequency is usable against a layer's distribution (sigdis.rs, lines 56 to 79).
-use Rattle.std.specs.Prelude.{ℕ, ◌-◌, cond, get_or, Float}
+use Rattle.std.specs.Prelude.{ℕ, ◌-◌, cond, get_or, Result, Ok, Err, Float}
 use Rattle.std.specs.Float.{nan}
 use Rattle.std.specs.Float.Ieee.{lt, le}
 use Rattle.arith.specs.Floats.{◌⊖◌, ◌⊗◌, ◌⊘◌, max_of}
 use Rattle.arith.specs.Numbers.{0·0, 0·001, 1·0}
-use Rattle.limits.specs.Limits.{layer_within, refusal_layer}
+use Rattle.limits.specs.declared.Refusal.{Refusal}
+use Rattle.limits.specs.declared.Refusal.TheVariants.{Layer}
+use Rattle.limits.specs.Limits.{layer_within, code_of}
 use Rattle.fnorml.specs.Fnorml.{tail_of, size_of}
 use Rattle.sigdis.specs.declared.LayerMuf.{LayerMuf}
 use Rattle.sigdis.specs.declared.MufHour.{MufHour}
-use Rattle.sigdis.specs.declared.Probability.{Probability}
-use Rattle.sigdis.specs.declared.Probability.TheVariants.{Value, Refused}
 
 -- lines 62 to 68
 unfoldable pub spread_of : LayerMuf → Float → Float → Float → Float
@@ -25,16 +25,19 @@ chance_of layer fmhz fgo fset =
     let z = fmhz ⊖ fgo in
     cond (le fset 0·0) (cond (le z 0·0) 1·0 0·0) (side_of (z ⊘ spread_of layer z fgo fset))
 
+-- the chance, or the limit that refuses
+abbrev pub Probability : Type 0
+Probability = Result Float Refusal
+
 -- Document 01: "Limit 13 is checked before anything else in `prbmuf`".
 unfoldable pub prbmuf_of : MufHour → Float → Float → Float → ℕ → Probability
 prbmuf_of hour fmhz fgo fset il =
-    cond (layer_within il) (Value (chance_of (get_or hour.layers (il - 1) (record { sigl = nan; sigu = nan })) fmhz fgo fset)) Refused
+    cond (layer_within il) (Ok (chance_of (get_or hour.layers (il - 1) (record { sigl = nan; sigu = nan })) fmhz fgo fset)) (Err Layer)
 
 -- document 01's number of each case, and what a place that holds old has after it
 abbrev pub refusal_of : Probability → ℕ
-refusal_of (Value p) = 0
-refusal_of Refused = refusal_layer
+refusal_of = code_of
 
 abbrev pub left_of : Probability → Float → Float
-left_of (Value p) old = p
-left_of Refused old = old
+left_of (Ok p) old = p
+left_of (Err refusal) old = old

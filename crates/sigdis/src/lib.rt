@@ -4,6 +4,8 @@
 ghost use Rattle.std.specs.Prelude.{◌≡◌};
 ghost use Rattle.sigdis.specs.Prbmuf.{spread_of, side_of, chance_of, prbmuf_of};
 
+use limits::Refusal;
+
 // What prbmuf reads of a layer's distribution: the lower and the upper decile (muf.rs, lines 673 to 675).
 #[derive(Clone, Copy)]
 pub struct LayerMuf {
@@ -15,12 +17,6 @@ pub struct LayerMuf {
 #[derive(Drop)]
 pub struct MufHour {
     pub layers: [LayerMuf; 4],
-}
-
-#[derive(Drop)]
-pub enum Probability {
-    Value(f32),
-    Refused,
 }
 
 // The distribution's width on the side where z lies, at least 0.001.
@@ -55,13 +51,10 @@ fn chance(layer: LayerMuf, fmhz: f32, fgo: f32, fset: f32) -> f32
 }
 
 // The same for layer il, counted from 1; another is refused before anything else.
-pub fn prbmuf(hour: MufHour, fmhz: f32, fgo: f32, fset: f32, il: usize) -> Probability
+#[tactic(auto, using(limits::proofs::LimitsLaws::layer_within_lem), unfolding(crate::specs::Prbmuf::prbmuf_of))]
+pub fn prbmuf(hour: MufHour, fmhz: f32, fgo: f32, fset: f32, il: usize) -> Result<f32, Refusal>
     ensures { result ≡ prbmuf_of hour fmhz fgo fset il }
 {
-    if limits::layer_within(il) {
-        let layer = hour.layers[il - 1];
-        Probability::Value(chance(layer, fmhz, fgo, fset))
-    } else {
-        Probability::Refused
-    }
+    limits::check(limits::layer_within(il), Refusal::Layer)?;
+    Ok(chance(hour.layers[il - 1], fmhz, fgo, fset))
 }

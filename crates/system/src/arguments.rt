@@ -1,76 +1,46 @@
 // The program's arguments, as one line.
-ghost use Rattle.std.specs.Prelude.{◌≤◌, length};
+#![tactic(auto, using(decimal::proofs::PageLaws::extends))]
 
+ghost use Rattle.std.specs.Prelude.{◌≤◌};
+ghost use Rattle.decimal.specs.Page.{Extends};
+
+use decimal::Page;
 use std::env::FillError;
 use std::rt::Env;
 
-// How far the line has got, and whether every word of it is whole.
-#[derive(Drop)]
-pub struct Gathered {
-    pub length: usize,
-    pub whole: bool,
-}
-
-pub fn gather<R: Env>(rt: &R, line: &mut [u8]) -> Gathered
-    ensures { result.length ≤ length line.old }
+// The words behind the line, where every one is whole.
+pub fn gather<R: Env>(rt: &R, line: &mut Page) -> Result<(), FillError>
+    ensures { Extends line.old line.new }
 {
-    let last = few(rt);
-    let mut to = 0usize;
-    let mut i = 1usize;
-    while i < last {
-        let next = add(rt, line, to, i);
-        if !next.whole {
-            return next;
-        }
-        to = next.length;
-        i += 1;
+    for i in 1..few(rt) {
+        add(rt, line, i)?;
     }
-    Gathered {
-        length: to,
-        whole: true,
-    }
+    Ok(())
 }
 
 // How many arguments there are. No command takes more than 9 words: of more than 10 the first 10 tell as much.
 fn few<R: Env>(rt: &R) -> usize
     ensures { result ≤ 11 }
 {
-    let mut count = 0usize;
-    while count < 11 {
+    for count in 0..11 {
         if !is_there(rt, count) {
             return count;
         }
-        count += 1;
     }
-    count
+    11
 }
 
 fn is_there<R: Env>(rt: &R, i: usize) -> bool {
-    match rt.arg(i, &mut []) {
-        Ok(_) => true,
-        Err(FillError::TooLong) => true,
-        Err(FillError::NotPresent) => false,
-    }
+    !matches!(rt.arg(i, &mut []), Err(FillError::NotPresent))
 }
 
 // Argument i behind the line, and its byte 0.
-fn add<R: Env>(rt: &R, line: &mut [u8], at: usize, i: usize) -> Gathered
-    requires { at ≤ length line.old }
-    ensures { result.length ≤ length line.old }
+fn add<R: Env>(rt: &R, line: &mut Page, i: usize) -> Result<(), FillError>
+    ensures { Extends line.old line.new }
 {
     let mut word = [0u8; 4095];
-    match rt.arg(i, &mut word) {
-        Ok(n) => {
-            let end = decimal::text(line, at, &word[..n]);
-            let next = decimal::put(line, end, 0);
-            Gathered {
-                length: next,
-                whole: true,
-            }
-        }
-        Err(_) => Gathered {
-            length: at,
-            whole: false,
-        },
-    }
+    let n = rt.arg(i, &mut word)?;
+    line.text(&word[..n]);
+    line.put(0);
+    Ok(())
 }

@@ -1,21 +1,14 @@
-// What the tool has of the system: its arguments, files to read and write, a place for errors.
+// What the tool has of the system: its arguments, files to read and write, a place for errors; and how a command ends.
 #![tactic(auto)]
 
 mod arguments;
 mod errors;
+mod exit;
 mod files;
+mod io;
+mod outcome;
 
-pub use arguments::{Gathered, gather};
-pub use errors::{unwritten, wrong};
-pub use files::{Taken, print, read, write};
-
-// The exit statuses; a refused job's is the number of the limit.
-pub const DONE: u32 = 0;
-
-pub const USAGE: u32 = 64;
-
-pub const NO_INPUT: u32 = 66;
-
-pub const NO_OUTPUT: u32 = 73;
-
-pub const NOT_WRITTEN: u32 = 74;
+pub use arguments::gather;
+pub use exit::status;
+pub use io::{Io, shown};
+pub use outcome::{Failure, Refused};

@@ -1,11 +1,12 @@
 // The sheet's tables: the six slots, the rows of the reflectrix, the lines under them.
-#![tactic(auto)]
+#![tactic(auto, using(decimal::proofs::PageLaws::extends))]
 
-ghost use Rattle.std.specs.Prelude.{◌≡◌, ◌<◌, ◌≤◌, length};
+ghost use Rattle.std.specs.Prelude.{◌<◌};
+ghost use Rattle.decimal.specs.Page.{Extends};
 
-use decimal::{filled, text};
+use decimal::Page;
 use job::layout;
-use view::{State, above, word};
+use view::{State, View, above, word};
 
 mod reflectrix;
 
@@ -15,20 +16,18 @@ pub use reflectrix::rows;
 const FARTHEST_SKIP: u32 = 0x461c_4000;
 
 // A layer's name, in two columns.
-fn letters(n: u32, out: &mut [u8], at: usize) -> usize
-    ensures { result ≤ length out.old }
+fn letters(n: u32, page: &mut Page)
+    ensures { Extends page.old page.new }
 {
-    let a = names::layer(n, out, at);
+    names::layer(n, page);
     if n == 1 {
-        return decimal::put(out, a, b' ');
+        page.put(b' ');
     }
-    a
 }
 
 // The values of slot s. The last is the virtual height without its minus, which in a slot that is too low is the slot's mark.
 fn slot_values(answer: &[u8], s: usize) -> [u32; 7]
     requires { s < 6 }
-    ensures { 7 ≡ length result }
 {
     [
         (s + 1) as u32,
@@ -41,119 +40,100 @@ fn slot_values(answer: &[u8], s: usize) -> [u32; 7]
     ]
 }
 
-fn slot(job: &[u8], answer: &[u8], s: usize, out: &mut [u8], at: usize) -> usize
+fn slot(view: View, s: usize, page: &mut Page)
     requires { s < 6 }
-    ensures { result ≤ length out.old }
+    ensures { Extends page.old page.new }
 {
-    let v = slot_values(answer, s);
-    let state = view::slot(job, answer, s);
-    let a = filled(b"  @Aw1   ", &v, out, at);
-    let State::Empty = state else {
-        let b = letters(word(answer, layout::ITMOD + s), out, a);
-        let across = crossing::across_cusp(job, answer, s);
-        return angle(&v, view::is_ray(state), across, out, b);
-    };
-    text(out, a, b"empty\n")
+    let v = slot_values(view.answer, s);
+    let state = view.slot(s);
+    page.filled(b"  @Aw1   ", &v);
+    if state == State::Empty {
+        page.text(b"empty\n");
+        return;
+    }
+    letters(word(view.answer, layout::ITMOD + s), page);
+    angle(&v, state, crossing::across_cusp(view, s), page);
 }
 
 // What follows the layer. A ray across a cusp is marked: its angle lies on no row.
-fn angle(v: &[u32; 7], ray: usize, across: bool, out: &mut [u8], at: usize) -> usize
-    ensures { result ≤ length out.old }
+fn angle(v: &[u32; 7], state: State, across: bool, page: &mut Page)
+    ensures { Extends page.old page.new }
 {
     if across {
-        return filled(
-            b"     @B39 across a cusp @C16 @D19  @E39  @F2:\n",
-            v,
-            out,
-            at,
-        );
+        page.filled(b"     @B39 across a cusp @C16 @D19  @E39  @F2:\n", v);
+    } else if state == State::Ray {
+        page.filled(b"     @B39            @C19 @D19  @E39  @F2:\n", v);
+    } else {
+        page.filled(b"     @B39  too low   @G19 @D19  @E39  @F2:\n", v);
     }
-    if ray == 1 {
-        return filled(b"     @B39            @C19 @D19  @E39  @F2:\n", v, out, at);
-    }
-    filled(b"     @B39  too low   @G19 @D19  @E39  @F2:\n", v, out, at)
 }
 
 // The six slots.
-pub fn slots(job: &[u8], answer: &[u8], out: &mut [u8], at: usize) -> usize
-    ensures { result ≤ length out.old }
+pub fn slots(view: View, page: &mut Page)
+    ensures { Extends page.old page.new }
 {
-    let v = [view::asked(job)];
-    let mut to = filled(
+    page.filled(
         b"\nRAYS for the asked hop of @A1i km\nslot  layer   take-off               virtual      true   vertical  absorption\n                 angle                height    height  frequency      factor\n                   deg                    km        km        MHz\n",
-        &v,
-        out,
-        at,
+        &[view.asked()],
     );
-    let mut s = 0usize;
-    while s < layout::SLOTS {
-        to = slot(job, answer, s, out, to);
-        s += 1;
+    for s in 0..layout::SLOTS {
+        slot(view, s, page);
     }
-    to
-}
-
-// Whether row r, counted from 0, has this very length.
-fn has_length(answer: &[u8], r: usize, w: u32) -> bool {
-    if r >= layout::COLUMN_ROWS {
-        return false;
-    }
-    ((r as u32) < word(answer, layout::ROWS)) & (word(answer, layout::GDFLX + r) == w)
 }
 
 // Whether some row has this very length.
-fn some_length(answer: &[u8], w: u32) -> bool {
-    let mut found = false;
-    let mut r = 0usize;
-    while r < layout::COLUMN_ROWS {
-        found = found | has_length(answer, r, w);
-        r += 1;
-    }
-    found
-}
-
-fn nearest(answer: &[u8], out: &mut [u8], at: usize) -> usize
-    ensures { result ≤ length out.old }
-{
-    let v = [word(answer, layout::DSKPKM), word(answer, layout::DELSKP)];
-    if word(answer, layout::ROWS) == 0 {
-        return text(out, at, b"none\n");
-    }
-    if word(answer, layout::DELPEN + 2) == 0 {
-        return text(out, at, b"not given: F2 is always pierced\n");
-    }
-    if v[0] == FARTHEST_SKIP {
-        if !some_length(answer, v[0]) {
-            return text(out, at, b"none below 10000 km\n");
+fn some_length(view: View, w: u32) -> bool {
+    for r in 0..view.rows() {
+        if word(view.answer, layout::GDFLX + r) == w {
+            return true;
         }
     }
-    let a = filled(b"@A1i km at @B3i deg, layer ", &v, out, at);
-    let b = names::layer(word(answer, layout::ISKP), out, a);
-    text(out, b, b"\n")
+    false
 }
 
-fn farthest(answer: &[u8], out: &mut [u8], at: usize) -> usize
-    ensures { result ≤ length out.old }
+fn nearest(view: View, page: &mut Page)
+    ensures { Extends page.old page.new }
 {
-    let v = [word(answer, layout::DMAXKM)];
-    if above(v[0], 0) {
-        return filled(b"@A1i km\n", &v, out, at);
+    let v = [
+        word(view.answer, layout::DSKPKM),
+        word(view.answer, layout::DELSKP),
+    ];
+    if word(view.answer, layout::ROWS) == 0 {
+        page.text(b"none\n");
+    } else if word(view.answer, layout::DELPEN + 2) == 0 {
+        page.text(b"not given: F2 is always pierced\n");
+    } else if v[0] == FARTHEST_SKIP && !some_length(view, v[0]) {
+        page.text(b"none below 10000 km\n");
+    } else {
+        page.filled(b"@A1i km at @B3i deg, layer ", &v);
+        names::layer(word(view.answer, layout::ISKP), page);
+        page.text(b"\n");
     }
-    text(out, at, b"none\n")
+}
+
+fn farthest(answer: &[u8], page: &mut Page)
+    ensures { Extends page.old page.new }
+{
+    let dmaxkm = word(answer, layout::DMAXKM);
+    if above(dmaxkm, 0) {
+        page.filled(b"@A1i km\n", &[dmaxkm]);
+    } else {
+        page.text(b"none\n");
+    }
 }
 
 // Nearest, farthest, work.
-pub fn last(answer: &[u8], out: &mut [u8], at: usize) -> usize
-    ensures { result ≤ length out.old }
+pub fn last(view: View, page: &mut Page)
+    ensures { Extends page.old page.new }
 {
+    page.text(b"Nearest ground reached (skip distance): ");
+    nearest(view, page);
+    page.text(b"Farthest hop at or above the minimum angle: ");
+    farthest(view.answer, page);
     let v = [
-        word(answer, layout::LOOKS),
-        word(answer, layout::ROWS),
-        word(answer, layout::PAIRS),
+        word(view.answer, layout::LOOKS),
+        word(view.answer, layout::ROWS),
+        word(view.answer, layout::PAIRS),
     ];
-    let a = text(out, at, b"Nearest ground reached (skip distance): ");
-    let b = nearest(answer, out, a);
-    let c = text(out, b, b"Farthest hop at or above the minimum angle: ");
-    let d = farthest(answer, out, c);
-    filled(b"Work: @Aw1 looks, @Bw1 rows, @Cw1 pairs\n", &v, out, d)
+    page.filled(b"Work: @Aw1 looks, @Bw1 rows, @Cw1 pairs\n", &v);
 }

@@ -1,29 +1,30 @@
 // The rows of the reflectrix.
-ghost use Rattle.std.specs.Prelude.{◌≡◌, ◌<◌, ◌≤◌, length};
+#![tactic(auto, using(decimal::proofs::PageLaws::extends))]
+
+ghost use Rattle.std.specs.Prelude.{◌≡◌, ◌<◌};
+ghost use Rattle.decimal.specs.Page.{Extends};
 ghost use Rattle.tables.specs.Letters.{letter_of};
 
 use crate::letters;
-use decimal::{filled, text};
+use decimal::Page;
 use job::layout;
-use view::{RowKind, above, at_least, word};
+use view::{RowKind, View, above, at_least, word};
 
 // How a row's length stands to the asked one.
 fn mark(length: u32, asked: u32) -> u8 {
     if above(asked, length) {
-        return b'<';
+        b'<'
+    } else if above(length, asked) {
+        b'>'
+    } else if at_least(length, asked) {
+        b'='
+    } else {
+        b'?'
     }
-    if above(length, asked) {
-        return b'>';
-    }
-    if at_least(length, asked) {
-        return b'=';
-    }
-    b'?'
 }
 
 fn row_values(answer: &[u8], r: usize) -> [u32; 7]
     requires { r < 45 }
-    ensures { 7 ≡ length result }
 {
     [
         (r + 1) as u32,
@@ -50,81 +51,55 @@ fn kind_letter(k: RowKind) -> u8
 }
 
 // Row r's layer and the letter of its kind.
-fn layer_and_kind(answer: &[u8], r: usize, out: &mut [u8], at: usize) -> usize
+fn layer_and_kind(view: View, r: usize, page: &mut Page)
     requires { r < 45 }
-    ensures { result ≤ length out.old }
+    ensures { Extends page.old page.new }
 {
-    let a = letters(word(answer, layout::IMODE + r), out, at);
-    let b = decimal::put(out, a, b' ');
-    decimal::put(out, b, kind_letter(view::row_kind(answer, r)))
+    letters(word(view.answer, layout::IMODE + r), page);
+    page.put(b' ');
+    page.put(kind_letter(view.row_kind(r)));
 }
 
 // Row r, counted from 0.
-fn row(job: &[u8], answer: &[u8], r: usize, out: &mut [u8], at: usize) -> usize
+fn row(view: View, r: usize, page: &mut Page)
     requires { r < 45 }
-    ensures { result ≤ length out.old }
+    ensures { Extends page.old page.new }
 {
-    let v = row_values(answer, r);
-    let a = filled(b"  @Aw2  ", &v, out, at);
-    let b = layer_and_kind(answer, r, out, a);
-    let c = filled(b"   @B39   @C18 ", &v, out, b);
-    let d = decimal::put(out, c, mark(v[2], view::asked(job)));
-    filled(b"@D18 @E19  @F39  @G2:\n", &v, out, d)
+    let v = row_values(view.answer, r);
+    page.filled(b"  @Aw2  ", &v);
+    layer_and_kind(view, r, page);
+    page.filled(b"   @B39   @C18 ", &v);
+    page.put(mark(v[2], view.asked()));
+    page.filled(b"@D18 @E19  @F39  @G2:\n", &v);
 }
 
-// How many rows there are, the layout's at most.
-fn count(answer: &[u8]) -> usize
-    ensures { result ≤ 45 }
+fn heading(n: u32, page: &mut Page)
+    ensures { Extends page.old page.new }
 {
-    let n = word(answer, layout::ROWS) as usize;
-    if n < layout::COLUMN_ROWS {
-        n
-    } else {
-        layout::COLUMN_ROWS
-    }
-}
-
-fn each(job: &[u8], answer: &[u8], out: &mut [u8], at: usize) -> usize
-    ensures { result ≤ length out.old }
-{
-    let n = count(answer);
-    let mut to = decimal::inside(at, out);
-    let mut r = 0usize;
-    while r < n {
-        to = row(job, answer, r, out, to);
-        r += 1;
-    }
-    to
-}
-
-fn heading(n: u32, out: &mut [u8], at: usize) -> usize
-    ensures { result ≤ length out.old }
-{
-    let v = [n];
     if n == 1 {
-        return text(out, at, b"\nREFLECTRIX, 1 row\n");
+        page.text(b"\nREFLECTRIX, 1 row\n");
+    } else {
+        page.filled(b"\nREFLECTRIX, @Aw1 rows\n", &[n]);
     }
-    filled(b"\nREFLECTRIX, @Aw1 rows\n", &v, out, at)
 }
 
 // The table of rows with its heading.
-pub fn rows(job: &[u8], answer: &[u8], out: &mut [u8], at: usize) -> usize
-    ensures { result ≤ length out.old }
+pub fn rows(view: View, page: &mut Page)
+    ensures { Extends page.old page.new }
 {
-    let n = word(answer, layout::ROWS);
-    let a = heading(n, out, at);
+    let n = word(view.answer, layout::ROWS);
+    heading(n, page);
     if n == 0 {
-        return text(out, a, b"\n");
+        page.text(b"\n");
+        return;
     }
-    let b = text(
-        out,
-        a,
+    page.text(
         b" row  layer   take-off         hop   virtual      true   vertical  absorption\n                 angle      length    height    height  frequency      factor\n                   deg          km        km        km        MHz\n",
     );
-    let c = each(job, answer, out, b);
-    text(
-        out,
-        c,
+    for r in 0..view.rows() {
+        row(view, r, page);
+    }
+    page.text(
         b"      hop: < shorter than the asked one, > longer, = the same, ? not a number\n      row: t from the table, b between two entries, c cusp, a after a cusp\n\n",
-    )
+    );
 }

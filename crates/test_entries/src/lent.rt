@@ -1,6 +1,6 @@
 // findf and fdist by reference, over locals that are lent.
 ghost use Rattle.std.specs.Prelude.{◌≡◌};
-ghost use Rattle.findf.specs.Inputs.{job_by};
+ghost use Rattle.findf.specs.Inputs.{job_by, tables_by};
 ghost use Rattle.findf.specs.Findf.{findf_of};
 ghost use Rattle.fdist.specs.Fdist.{fdist_of};
 
@@ -22,11 +22,10 @@ pub extern "C" fn ray_findf_by_reference(
     afac: &[f32; 30],
     ifob: &[i32; 1200],
 ) -> Walked
-    ensures { result ≡ findf_of rfx (job_by k nang freq amind fi.now fvert.now hprim.now htrue.now afac.now ifob.now) }
+    ensures { result ≡ findf_of rfx (job_by k nang freq amind fi.now (tables_by fvert.now hprim.now htrue.now afac.now ifob.now)) }
 {
-    lending::findf(
-        rfx, k, nang, freq, amind, *fi, *fvert, *hprim, *htrue, *afac, *ifob,
-    )
+    let tables = super::tables_of(fvert, hprim, htrue, afac, ifob);
+    lending::findf(rfx, k, nang, freq, amind, *fi, tables)
 }
 
 #[unsafe(no_mangle)]

@@ -6,15 +6,15 @@ ghost use Rattle.root.specs.Root.{sqrt_of};
 ghost use Rattle.fnorml.specs.Fnorml.{fnorml_of};
 ghost use Rattle.sigdis.specs.Prbmuf.{prbmuf_of, refusal_of, left_of};
 ghost use Rattle.allmodes.specs.AllModes.{reset_of, accumulate_of};
-ghost use Rattle.findf.specs.Inputs.{job_by};
+ghost use Rattle.findf.specs.Inputs.{job_by, tables_by};
 ghost use Rattle.findf.specs.Findf.{findf_of};
 ghost use Rattle.fdist.specs.Fdist.{fdist_of};
 ghost use Rattle.test_entries.specs.Entries.{hour_of};
 
 use allmodes::{Accumulated, AllModes, Zon};
 use fdist::{HopModes, Searched};
-use findf::{Reflectrix, Walked};
-use sigdis::{LayerMuf, MufHour, Probability};
+use findf::{Reflectrix, Tables, Walked};
+use sigdis::{LayerMuf, MufHour};
 
 mod lent;
 
@@ -66,30 +66,49 @@ pub extern "C" fn ray_prbmuf(
         ],
     };
     let answer = sigdis::prbmuf(hour, fmhz, fgo, fset, il);
-    match answer {
-        Probability::Value(p) => {
-            *out = p;
-            0
-        }
-        Probability::Refused => limits::REFUSAL_LAYER,
+    if let Ok(p) = answer {
+        *out = p;
     }
+    limits::code(answer)
 }
 
 #[unsafe(no_mangle)]
 pub extern "C" fn ray_reset(m: AllModes) -> AllModes
     ensures { result ≡ reset_of m }
 {
-    allmodes::reset(m)
+    let mut m = m;
+    m.reset();
+    m
 }
 
 #[unsafe(no_mangle)]
 pub extern "C" fn ray_accumulate(m: AllModes, zon: Zon, ist: usize, lst: usize) -> Accumulated
     ensures { result ≡ accumulate_of m zon ist lst }
 {
-    allmodes::accumulate(m, zon, ist, lst)
+    let mut modes = m;
+    let refusal = limits::code(modes.accumulate(&zon, ist, lst));
+    Accumulated { refusal, modes }
 }
 
-// The tables are lent, since C passes no array by value; findf has its own copies.
+// C passes no array by value: its tables are lent one by one, and copied.
+pub(crate) fn tables_of(
+    fvert: &[f32; 30],
+    hprim: &[f32; 30],
+    htrue: &[f32; 30],
+    afac: &[f32; 30],
+    ifob: &[i32; 1200],
+) -> Tables
+    ensures { result ≡ tables_by fvert.now hprim.now htrue.now afac.now ifob.now }
+{
+    Tables {
+        fvert: *fvert,
+        hprim: *hprim,
+        htrue: *htrue,
+        afac: *afac,
+        ifob: *ifob,
+    }
+}
+
 #[unsafe(no_mangle)]
 pub extern "C" fn ray_findf(
     rfx: Reflectrix,
@@ -104,11 +123,10 @@ pub extern "C" fn ray_findf(
     afac: &[f32; 30],
     ifob: &[i32; 1200],
 ) -> Walked
-    ensures { result ≡ findf_of rfx (job_by k nang freq amind fi.now fvert.now hprim.now htrue.now afac.now ifob.now) }
+    ensures { result ≡ findf_of rfx (job_by k nang freq amind fi.now (tables_by fvert.now hprim.now htrue.now afac.now ifob.now)) }
 {
-    findf::findf(
-        rfx, k, nang, freq, amind, *fi, *fvert, *hprim, *htrue, *afac, *ifob,
-    )
+    let tables = tables_of(fvert, hprim, htrue, afac, ifob);
+    findf::findf(rfx, k, nang, freq, amind, *fi, tables)
 }
 
 #[unsafe(no_mangle)]

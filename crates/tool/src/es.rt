@@ -1,59 +1,53 @@
 // `es`: what the library answers on sporadic E.
 ghost use Rattle.std.specs.Prelude.{◌≡◌, true};
-ghost use Rattle.system.specs.Status.{is_status, ends_as};
 ghost use Rattle.es_file.specs.File.{number_of};
+ghost use Rattle.system.specs.Status.{ends_as};
+ghost use Rattle.system.specs.Outcome.{status_of, refusal_number};
 
-use command::{is, word};
-use decimal::{inside, text};
+use crate::refused::refused;
+use command::{count, word};
+use decimal::Page;
 use std::rt::Files;
+use system::{Failure, Io, Refused, shown};
 
 pub(crate) fn es<R: Files + Input + Eprint, O: Print, E: Print>(
-    rt: &R,
+    io: &Io<R, O, E>,
     line: &[u8],
-    n: usize,
-    out: &O,
-    err: &E,
-) -> u32
-    ensures { is_status result ≡ true }
-{
-    if n != 2 {
-        return system::wrong(err, b"es takes FILE; 'ray help' says more\n", b"", b"");
+) -> Result<(), Failure> {
+    if count(line) != 2 {
+        return Err(io.wrong(b"es takes FILE; 'ray help' says more\n", b"", b""));
     }
     let name = word(line, 1);
     let mut file = [0u8; 105];
-    let taken = system::read(rt, name, &mut file);
-    if taken.failed {
-        return system::NO_INPUT;
-    }
-    let end = inside(taken.count, &file);
-    if is(name, b"-") {
-        return answered(b"standard input", &file[..end], out, err);
-    }
-    answered(name, &file[..end], out, err)
+    let length = io.read(name, &mut file)?;
+    answered(io, shown(name), &file[..length])
 }
 
-fn answered<O: Print, E: Print>(name: &[u8], file: &[u8], out: &O, err: &E) -> u32
-    ensures result_value { ends_as (number_of file.now) result ≡ true }
-    ensures result_value_2 { is_status result ≡ true }
+fn answered<R: Files + Input + Eprint, O: Print, E: Print>(
+    io: &Io<R, O, E>,
+    name: &[u8],
+    file: &[u8],
+) -> Result<(), Failure>
+    ensures { ends_as (number_of file.now) (status_of result) ≡ true }
 {
-    let number = es_file::refusal(file);
-    if number != 0 {
-        return complained(name, file, number, err);
+    if let Err(limit) = held(file) {
+        let broken = limit.why;
+        return refused(io, limit, false, |page| {
+            es_sheet::refusal(name, file, broken, page)
+        });
     }
-    let mut page = [0u8; 65536];
-    let length = es_sheet::page(name, file, &mut page);
-    let end = inside(length, &page);
-    system::print(&page[..end], out, err)
+    let mut bytes = [0u8; 65536];
+    let mut page = Page::new(&mut bytes);
+    es_sheet::page(name, file, &mut page);
+    io.print(page.written())
 }
 
-// The two lines of a refusal. The status is the number.
-fn complained<E: Print>(name: &[u8], file: &[u8], number: u32, err: &E) -> u32
-    ensures { result ≡ number }
+// The file's first limit broken.
+fn held(file: &[u8]) -> Result<(), Refused>
+    ensures { refusal_number result ≡ number_of file.now }
 {
-    let mut page = [0u8; 65536];
-    let a = text(&mut page, 0, b"ray: ");
-    let length = es_sheet::refusal(name, file, number, &mut page, a);
-    let end = inside(length, &page);
-    let _ = err.write_all(&page[..end]);
-    number
+    match es_file::check(file) {
+        Ok(()) => Ok(()),
+        Err(why) => Err(Refused { why }),
+    }
 }

@@ -7,23 +7,24 @@ ghost use Rattle.system.specs.Status.{is_status};
 
 use std::process::ExitCode;
 use std::rt::{Env, Files};
+use system::Io;
 
 fn main(rt: HostRuntime) -> ExitCode {
-    ended(&rt, &rt.stdout(), &rt.stderr())
+    ended(&Io {
+        rt: &rt,
+        out: &rt.stdout(),
+        err: &rt.stderr(),
+    })
 }
 
-fn ended<R: Files + Env + Input + Eprint, O: Print, E: Print>(rt: &R, out: &O, err: &E) -> ExitCode
+fn ended<R: Files + Env + Input + Eprint, O: Print, E: Print>(io: &Io<R, O, E>) -> ExitCode
     ensures { is_status (exit_status result) ≡ true }
 {
-    ExitCode::from(ray_main(rt, out, err) as u8)
+    ExitCode::from(ray_main(io))
 }
 
-pub fn ray_main<R: Files + Env + Input + Eprint, O: Print, E: Print>(
-    rt: &R,
-    out: &O,
-    err: &E,
-) -> u32
+pub fn ray_main<R: Files + Env + Input + Eprint, O: Print, E: Print>(io: &Io<R, O, E>) -> u8
     ensures { is_status result ≡ true }
 {
-    tool::run(rt, out, err)
+    tool::run(io)
 }

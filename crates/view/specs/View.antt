@@ -1,5 +1,5 @@
 -- What the sheet and the drawing read of the bytes of a job and of its answer.
-use Rattle.std.specs.Prelude.{ℕ, zero, suc, ◌+◌, ◌*◌, Bool, true, false, ◌&&◌, cond, List, eqb, leb, ltb, Float}
+use Rattle.std.specs.Prelude.{ℕ, zero, suc, ◌+◌, ◌*◌, Bool, true, false, ◌&&◌, cond, min, List, eqb, leb, ltb, Float}
 use Prim.Native.String.{String}
 use Rattle.std.specs.Float.{binary32}
 use Rattle.std.specs.Float.Ieee.{to_bits, le}
@@ -45,10 +45,18 @@ is_ray Empty = 0
 is_ray Ray = 1
 is_ray TooLow = 0
 
+-- whether slot s is a ray
+abbrev pub ray_at : List ℕ → List ℕ → ℕ → Bool
+ray_at job answer s = eqb (is_ray (slot_of job answer s)) 1
+
 -- how many of the first n slots are rays
 unfoldable pub rays_before : List ℕ → List ℕ → ℕ → ℕ
 rays_before job answer zero = 0
 rays_before job answer (suc n) = rays_before job answer n + is_ray (slot_of job answer n)
+
+-- how many rows
+abbrev pub rows_of : List ℕ → ℕ
+rows_of answer = min (word answer (of_answer "rows")) column_rows
 
 -- order 2: "1 exact or filled because the lowest entry passes, 2 interpolated, 3 cusp, 4 the row after a cusp"; "Rows not written in this call have 0"
 unfoldable pub row_kind_by : ℕ → RowKind

@@ -5,8 +5,8 @@ ghost use Rattle.std.specs.Prelude.{◌≡◌, ◌+◌, ◌≤◌, min};
 ghost use Rattle.std.specs.Float.Ieee.{lt, le};
 ghost use Rattle.arith.specs.Floats.{f32};
 ghost use Rattle.job.specs.Layout as meant;
-ghost use Rattle.job.specs.Answer.{slots};
-ghost use Rattle.view.specs.View.{asked_of, critical_of, slot_of, is_empty, is_ray, rays_before, row_kind_by, row_kind_of, is_cusp, is_after_cusp};
+ghost use Rattle.job.specs.Answer.{column_rows, slots};
+ghost use Rattle.view.specs.View.{asked_of, critical_of, slot_of, ray_at, rays_before, rows_of, row_kind_by, row_kind_of, is_cusp, is_after_cusp};
 
 use job::layout;
 
@@ -22,7 +22,7 @@ pub const GHOP: usize = layout::SHARED + layout::GHOP;
 pub const FI: usize = layout::SHARED + layout::FI;
 
 // A slot of the answer: its layer is 5, its angle is at or above the minimum angle, or below it.
-#[derive(Drop)]
+#[derive(Clone, Copy, Debug, PartialEq, Eq)]
 pub enum State {
     Empty,
     Ray,
@@ -30,13 +30,123 @@ pub enum State {
 }
 
 // How a row of the reflectrix was made.
-#[derive(Clone, Copy)]
+#[derive(Clone, Copy, Debug, PartialEq, Eq)]
 pub enum RowKind {
     Unwritten,
     Table,
     Between,
     Cusp,
     AfterCusp,
+}
+
+impl From<u32> for RowKind {
+    ghost from_gives = { λ n k. k ≡ row_kind_by n };
+
+    #[tactic(auto, using(std::proofs::lemmas::Bool::Decides::nat_tests), unfolding(crate::specs::View::row_kind_by))]
+    fn from(n: u32) -> RowKind {
+        match n {
+            findf::KIND_EXACT => RowKind::Table,
+            findf::KIND_INTERP => RowKind::Between,
+            findf::KIND_CUSP => RowKind::Cusp,
+            findf::KIND_NEXT_CUSP => RowKind::AfterCusp,
+            _ => RowKind::Unwritten,
+        }
+    }
+}
+
+// The bytes of a job and of its answer.
+#[derive(Clone, Copy)]
+pub struct View<'a> {
+    pub job: &'a [u8],
+    pub answer: &'a [u8],
+}
+
+impl View<'_> {
+    // The bits of the asked length, in km: one product.
+    pub fn asked(self) -> u32
+        ensures { result ≡ asked_of self.entry.job.now }
+    {
+        words::bits(words::float(word(self.job, GHOP)) * arith::RZ)
+    }
+
+    // The bits of the critical frequency of layer l (0 E, 1 F1, 2 F2) at the job's point.
+    #[tactic(auto, using(crate::proofs::ViewLaws::critical_is, crate::proofs::ViewLaws::no_point, crate::proofs::ViewLaws::no_layer))]
+    pub fn critical(self, l: usize) -> u32
+        ensures { result ≡ critical_of self.entry.job.now l }
+    {
+        let k = word(self.job, layout::K) as usize;
+        if k <= 4 && l <= 2 {
+            return word(self.job, FI + layout::POINT_NUMBERS * k + l);
+        }
+        0
+    }
+
+    // Slot s, counted from 0.
+    pub fn slot(self, s: usize) -> State
+        ensures { result ≡ slot_of self.entry.job.now self.entry.answer.now s }
+    {
+        if s >= layout::SLOTS {
+            return State::Empty;
+        }
+        if word(self.answer, layout::ITMOD + s) == 5 {
+            return State::Empty;
+        }
+        if at_least(word(self.answer, layout::DELMOD + s), word(self.job, AMIND)) {
+            return State::Ray;
+        }
+        State::TooLow
+    }
+
+    // Whether slot s is a ray.
+    pub fn is_ray(self, s: usize) -> bool
+        ensures { result ≡ ray_at self.entry.job.now self.entry.answer.now s }
+    {
+        self.slot(s) == State::Ray
+    }
+
+    // How many of the first n slots are rays.
+    pub fn rays_before(self, n: usize) -> usize
+        ensures value { result ≡ rays_before self.entry.job.now self.entry.answer.now (min n slots) }
+        ensures upper_bound { result ≤ slots }
+    {
+        let mut k = 0;
+        for s in 0..n.min(layout::SLOTS) {
+            k += usize::from(self.is_ray(s));
+        }
+        k
+    }
+
+    // How many rows there are, at most as many as have room.
+    pub fn rows(self) -> usize
+        ensures value { result ≡ rows_of self.entry.answer.now }
+        ensures upper_bound { result ≤ column_rows }
+    {
+        (word(self.answer, layout::ROWS) as usize).min(layout::COLUMN_ROWS)
+    }
+
+    // The kind of row r, counted from 0.
+    #[tactic(auto, using(std::proofs::lemmas::Bool::Decides::nat_tests), unfolding(crate::specs::View::row_kind_of))]
+    pub fn row_kind(self, r: usize) -> RowKind
+        ensures { result ≡ row_kind_of self.entry.answer.now r }
+    {
+        if r < layout::COLUMN_ROWS {
+            return RowKind::from(word(self.answer, layout::KIND + r));
+        }
+        RowKind::Unwritten
+    }
+
+    // Whether row r is a cusp, and whether it is the row after one.
+    pub fn is_cusp(self, r: usize) -> bool
+        ensures { result ≡ is_cusp (row_kind_of self.entry.answer.now r) }
+    {
+        self.row_kind(r) == RowKind::Cusp
+    }
+
+    pub fn is_after_cusp(self, r: usize) -> bool
+        ensures { result ≡ is_after_cusp (row_kind_of self.entry.answer.now r) }
+    {
+        self.row_kind(r) == RowKind::AfterCusp
+    }
 }
 
 // Word i; past the end 0.
@@ -60,139 +170,4 @@ pub fn above(a: u32, b: u32) -> bool
     ensures { result ≡ lt (f32 b) (f32 a) }
 {
     words::float(b) < words::float(a)
-}
-
-// The bits of the asked length, in km: one product.
-pub fn asked(job: &[u8]) -> u32
-    ensures { result ≡ asked_of job.now }
-{
-    words::bits(words::float(word(job, GHOP)) * arith::RZ)
-}
-
-// The bits of the critical frequency of layer l (0 E, 1 F1, 2 F2) at the job's point.
-#[tactic(auto, using(crate::proofs::ViewLaws::critical_is, crate::proofs::ViewLaws::no_point, crate::proofs::ViewLaws::no_layer))]
-pub fn critical(job: &[u8], l: usize) -> u32
-    ensures { result ≡ critical_of job.now l }
-{
-    let k = word(job, layout::K) as usize;
-    if k <= 4 {
-        if l <= 2 {
-            return word(job, FI + layout::POINT_NUMBERS * k + l);
-        }
-    }
-    0
-}
-
-// Slot s, counted from 0.
-pub fn slot(job: &[u8], answer: &[u8], s: usize) -> State
-    ensures { result ≡ slot_of job.now answer.now s }
-{
-    if s >= layout::SLOTS {
-        return State::Empty;
-    }
-    if word(answer, layout::ITMOD + s) == 5 {
-        return State::Empty;
-    }
-    if at_least(word(answer, layout::DELMOD + s), word(job, AMIND)) {
-        return State::Ray;
-    }
-    State::TooLow
-}
-
-pub fn is_empty(s: State) -> bool
-    ensures { result ≡ is_empty s }
-{
-    match s {
-        State::Empty => true,
-        State::Ray => false,
-        State::TooLow => false,
-    }
-}
-
-// 1 for a ray, else 0.
-pub fn is_ray(s: State) -> usize
-    ensures { result ≡ is_ray s }
-{
-    match s {
-        State::Empty => 0,
-        State::Ray => 1,
-        State::TooLow => 0,
-    }
-}
-
-// n, or the number of slots.
-fn up_to(n: usize) -> usize
-    ensures value { result ≡ min n slots }
-    ensures upper_bound { result ≤ slots }
-{
-    if n < layout::SLOTS { n } else { layout::SLOTS }
-}
-
-// How many of the first n slots are rays.
-pub fn rays_before(job: &[u8], answer: &[u8], n: usize) -> usize
-    ensures value { result ≡ rays_before job.now answer.now (min n slots) }
-    ensures upper_bound { result ≤ slots }
-{
-    let most = up_to(n);
-    let mut s = 0usize;
-    let mut k = 0usize;
-    while s < most {
-        k += is_ray(slot(job, answer, s));
-        s += 1;
-    }
-    k
-}
-
-#[tactic(auto, using(std::proofs::lemmas::Bool::Decides::nat_tests), unfolding(crate::specs::View::row_kind_by))]
-fn kind_by(n: u32) -> RowKind
-    ensures { result ≡ row_kind_by n }
-{
-    if n == findf::KIND_EXACT {
-        return RowKind::Table;
-    }
-    if n == findf::KIND_INTERP {
-        return RowKind::Between;
-    }
-    if n == findf::KIND_CUSP {
-        return RowKind::Cusp;
-    }
-    if n == findf::KIND_NEXT_CUSP {
-        return RowKind::AfterCusp;
-    }
-    RowKind::Unwritten
-}
-
-// The kind of row r, counted from 0.
-#[tactic(auto, using(std::proofs::lemmas::Bool::Decides::nat_tests), unfolding(crate::specs::View::row_kind_of))]
-pub fn row_kind(answer: &[u8], r: usize) -> RowKind
-    ensures { result ≡ row_kind_of answer.now r }
-{
-    if r < layout::COLUMN_ROWS {
-        return kind_by(word(answer, layout::KIND + r));
-    }
-    RowKind::Unwritten
-}
-
-pub fn is_cusp(k: RowKind) -> bool
-    ensures { result ≡ is_cusp k }
-{
-    match k {
-        RowKind::Unwritten => false,
-        RowKind::Table => false,
-        RowKind::Between => false,
-        RowKind::Cusp => true,
-        RowKind::AfterCusp => false,
-    }
-}
-
-pub fn is_after_cusp(k: RowKind) -> bool
-    ensures { result ≡ is_after_cusp k }
-{
-    match k {
-        RowKind::Unwritten => false,
-        RowKind::Table => false,
-        RowKind::Between => false,
-        RowKind::Cusp => false,
-        RowKind::AfterCusp => true,
-    }
 }

@@ -1,4 +1,5 @@
 pub mod ListLaws
 pub mod WordsLaws
+pub mod Rests
+pub mod FromFn
 pub mod Nan
-pub mod Signed

@@ -5,8 +5,8 @@ use Prim.Native.Nat.{ℕ, zero, suc, ◌+◌, ◌<◌, ◌≤◌}
 use native.Mathlib.Nat.{add-zero, le_of_suc-le-suc}
 use native.Mathlib.Numerals.{add-one}
 use native.Mathlib.Omega.{arith}
-use lib.ListN.{length, set, get_or, take, drop, length-set, drop_of_length-le}
-use lib.Seq.{take_all, take-suc-set, length-sets, sets-eq}
+use lib.ListN.{length, set, get_or, take, drop, length-set, drop_of_length-le, take-append-drop}
+use lib.Seq.{take_all, take-suc-set, length-sets, sets-eq, set_out}
 use Rattle.words.specs.Lists.{tab, put_at}
 
 -- `Filled n f l i`: l has n elements, and the first i are f 0, f 1, ..
@@ -26,6 +26,18 @@ module _ {A : Type 0} where
   get_d_tab zero f i d h = absurd (omega arith)
   get_d_tab (suc n) f zero d h = refl
   get_d_tab (suc n) f (suc i) d h = get_d_tab n (λ k. f (suc k)) i d (le_of_suc-le-suc h)
+
+  -- a list that has f i at each i
+  pub tab_of : (n : ℕ) (f : ℕ → A) (l : List A) → length l ≡ n → ((i : ℕ) → i < n → get_or l i (f i) ≡ f i) → l ≡ tab n f
+  unfolding tab
+  tab_of zero f [] e h = refl
+  tab_of zero f (x ∷ l) e h = absurd (omega (arith, e))
+  tab_of (suc n) f [] e h = absurd (omega (arith, e))
+  tab_of (suc n) f (x ∷ l) e h = rw (h 0 (omega arith), tab_of n (λ k. f (suc k)) l (omega (arith, e)) (λ i k. h (suc i) (omega (arith, k))))
+
+  -- functions that are the same below n
+  pub tab_same : (n : ℕ) (f g : ℕ → A) → ((i : ℕ) → i < n → f i ≡ g i) → tab n f ≡ tab n g
+  tab_same n f g h = tab_of n g (tab n f) (length_tab n f) (λ i k. get_d_tab n f i (g i) k ∙ h i k)
 
   pub tab_snoc : (n : ℕ) (f : ℕ → A) → tab (suc n) f ≡ tab n f ++ (f n ∷ [])
   unfolding tab
@@ -71,3 +83,14 @@ module _ {A : Type 0} where
   put_whole d s e =
       let none : drop (0 + length s) d ≡ [] = drop_of_length-le d {i = 0 + length s} (omega arith) in
       put_inside d 0 s (omega arith) ∙ rw none (append-nil s)
+
+  -- past the end nothing is written
+  pub put_past : (d : List A) (at : ℕ) (s : List A) → length d ≤ at → put_at d at s ≡ d
+  unfolding put_at
+  put_past d at [] h = refl
+  put_past d at (a ∷ s) h = rw (set_out d at a h) (put_past d (suc at) s (omega (arith, h)))
+
+  -- a part that is cut short
+  pub put_cut : (d : List A) (at n : ℕ) (s : List A) → length d ≤ at + length (take n s) → put_at d at s ≡ put_at d at (take n s)
+  put_cut d at n s h =
+      ap (put_at d at) (sym (take-append-drop n s)) ∙ sym (put_put d at (take n s) (drop n s)) ∙ put_past (put_at d at (take n s)) (at + length (take n s)) (drop n s) (omega (arith, h, length_put d at (take n s)))

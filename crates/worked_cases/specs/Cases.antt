@@ -8,6 +8,7 @@ use Rattle.sigdis.specs.Prbmuf.{prbmuf_of, refusal_of, left_of}
 use Rattle.findf.specs.declared.Reflectrix.{Reflectrix}
 use Rattle.fdist.specs.Fdist.{fdist_of}
 use Rattle.fdist.specs.declared.Searched.{Searched}
+use Rattle.findf.specs.Inputs.{tables_by}
 use Rattle.job.specs.Parts.{parts_by}
 use Rattle.job.specs.Solved.{Solved, no_slots, solved_of}
 
@@ -128,8 +129,7 @@ rows_of gs far =
 unfoldable pub solved : ℕ → ℕ → Solved
 solved fvert10 nang =
     solved_of
-    (parts_by 0 nang (f32 0x4000_0000) (f32 0) (f32 0x3f00_0000) (replicate 5 (f32 0 ∷ f32 0 ∷ f32 0x3f80_0000 ∷ [])) (set (zeros 30) 9 (f32 fvert10)) (zeros 30) (zeros 30) (zeros 30)
-    (replicate 1200 (pos 0)))
+    (parts_by 0 nang (f32 0x4000_0000) (f32 0) (f32 0x3f00_0000) (replicate 5 (f32 0 ∷ f32 0 ∷ f32 0x3f80_0000 ∷ [])) (tables_by (set (zeros 30) 9 (f32 fvert10)) (zeros 30) (zeros 30) (zeros 30) (replicate 1200 (pos 0))))
 
 -- ghop 0.5, freq 2: the search alone
 abbrev searched : Reflectrix → ℕ → Searched

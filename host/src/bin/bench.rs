@@ -173,7 +173,7 @@ fn refused(name: &str, number: u32, jobs: &[Vec<u8>], change: fn(&mut Vec<u8>)) 
 /// library's angle functions and no more of it.
 #[cfg(oracle)]
 fn walks_and_searches() {
-    use host::entries::{FdistJob, Figures, FindfJob, HopModes, Reflectrix};
+    use host::entries::{FdistJob, FindfJob, HopModes, Reflectrix, Tables};
     use host::oracle::{self, as_it_comes, led, AreaTables, IonoState};
     use host::{fdist, findf};
 
@@ -181,7 +181,8 @@ fn walks_and_searches() {
     let jobs: [FindfJob; JOBS] = std::array::from_fn(|_| findf::realistic(&mut prng));
     let rust_jobs = jobs.each_ref().map(|job| (IonoState::from(job), AreaTables::from(job)));
     let rfx = Reflectrix::random(&mut prng);
-    let (mut copied, mut lent, mut figures) = (rfx, rfx, Figures::from(&rfx));
+    let tables = jobs.each_ref().map(Tables::from);
+    let (mut copied, mut lent) = (rfx, rfx);
     let [mut as_it_comes_rfx, mut led_rfx] = [rfx; 2].map(oracle::Reflectrix::from);
     let rust = |findf: findf::RustFindf, rfx: &mut oracle::Reflectrix, i: usize| {
         let FindfJob { k, freq, amind, nang, .. } = jobs[i % JOBS];
@@ -191,8 +192,8 @@ fn walks_and_searches() {
     let [by_value, in_place, as_it_comes, led] = race([
         &mut |i| copied = findf::ours(copied, black_box(&jobs[i % JOBS])).rfx,
         &mut |i| {
-            let columns = black_box(&mut lent);
-            figures = findf::into_columns(columns, figures, black_box(&jobs[i % JOBS])).figures;
+            let (job, tables) = black_box((&jobs[i % JOBS], &tables[i % JOBS]));
+            findf::in_place(black_box(&mut lent), job, tables);
         },
         &mut |i| rust(as_it_comes::findf, &mut as_it_comes_rfx, i),
         &mut |i| rust(led::findf, &mut led_rfx, i),

@@ -1,11 +1,14 @@
-use Rattle.crossing.proofs.CrossingLaws.{ray_crossed, no_ray, past}
+use Rattle.crossing.specs.Crossing.{across_cusp}
+use Rattle.crossing.proofs.CrossingLaws.{past}
 use Rattle.crossing.proofs.across_cusp.Goals as goal
 
 pub returns-then-s-lt-SLOTS : goal.returns-then-s-lt-SLOTS
-returns-then-s-lt-SLOTS c = ray_crossed _ _ _ c.slot.ensures c.is_ray.ensures c.if-is_ray-eq1.true c.first_row.ensures c.crossed.ensures
+unfolding across_cusp
+returns-then-s-lt-SLOTS c = rw (← c.is_ray-ray.ensures, c.if-ray.true, ← c.first_row.ensures) c.crossed.ensures
 
 pub returns-else-s-lt-SLOTS : goal.returns-else-s-lt-SLOTS
 returns-else-s-lt-SLOTS c = past _ _ _ c.if-s-lt-SLOTS.false
 
-pub returns-else-is_ray-eq1 : goal.returns-else-is_ray-eq1
-returns-else-is_ray-eq1 c = no_ray _ _ _ c.slot.ensures c.is_ray.ensures c.if-is_ray-eq1.false
+pub returns-else-ray : goal.returns-else-ray
+unfolding across_cusp
+returns-else-ray c = rw (← c.is_ray-ray.ensures, c.if-ray.false)

@@ -1,28 +1,6 @@
-use mathlib.Core.Path.{refl}
-use native.Mathlib.Omega.{arith}
-use Rattle.words.proofs.ListLaws.{fill_none, fill_more, fill_all}
+use Rattle.std.proofs.lemmas.Grind.{common_steps}
+use Rattle.std.proofs.Common.{arith}
 use Rattle.crossing.proofs.column.Goals as goal
 
-pub loop-i-init : goal.loop-i-init
-loop-i-init c = fill_none 45 _ _ refl
-
-pub overflow_add-at : goal.overflow_add-at
-overflow_add-at c = omega arith
-
-pub offset_bounds-out-i : goal.offset_bounds-out-i
-offset_bounds-out-i c = omega arith
-
-pub bounds-out-i : goal.bounds-out-i
-bounds-out-i c = omega arith
-
-pub overflow_add-i : goal.overflow_add-i
-overflow_add-i c = omega arith
-
-pub loop-i-smaller : goal.loop-i-smaller
-loop-i-smaller c = omega arith
-
-pub loop-i-preserved : goal.loop-i-preserved
-loop-i-preserved c = fill_more c.loop-i.invariant c.loop-i-test.true c.number.ensures
-
 pub returns : goal.returns
-returns c = fill_all c.loop-i.invariant c.loop-i-test.false
+returns c = grind (arith, common_steps)

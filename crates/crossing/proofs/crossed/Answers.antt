@@ -4,7 +4,7 @@ use Rattle.crossing.proofs.crossed.Goals as goal
 
 pub returns-then-i-lt-COLUMN_ROWS : goal.returns-then-i-lt-COLUMN_ROWS
 unfolding crossed_at
-returns-then-i-lt-COLUMN_ROWS c = rw (lt-ltb _ _ c.if-i-lt-COLUMN_ROWS.true, ← c.row_kind.ensures, ← c.is_cusp.ensures, ← c.row_kind-then-i-lt-COLUMN_ROWS.ensures, ← c.is_after_cusp.ensures, ← c.spot.ensures)
+returns-then-i-lt-COLUMN_ROWS c = rw (lt-ltb _ _ c.if-i-lt-COLUMN_ROWS.true, ← c.is_cusp.ensures, ← c.is_after_cusp.ensures, ← c.spot.ensures)
 
 pub returns : goal.returns
 unfolding crossed_at

@@ -3,4 +3,4 @@ use Rattle.crossing.proofs.first_row.Goals as goal
 
 pub returns : goal.returns
 unfolding first_row_of
-returns c = rw (← c.numbered-found.ensures)
+returns c = rw (← c.numbered.ensures)

@@ -1,30 +1,8 @@
-use mathlib.Core.Path.{refl}
-use native.Mathlib.Omega.{arith}
-use Rattle.words.proofs.ListLaws.{fill_none, fill_more, fill_all}
+use Rattle.std.proofs.Common.{rules}
+use Rattle.words.proofs.FromFn.{made_by}
 use Rattle.crossing.specs.Crossing.{row_numbers}
 use Rattle.crossing.proofs.row_numbers.Goals as goal
 
-pub loop-i-init : goal.loop-i-init
-loop-i-init c = fill_none 45 _ _ refl
-
-pub overflow_cast-out : goal.overflow_cast-out
-overflow_cast-out c = omega arith
-
-pub offset_bounds-out-i : goal.offset_bounds-out-i
-offset_bounds-out-i c = omega arith
-
-pub bounds-out-i : goal.bounds-out-i
-bounds-out-i c = omega arith
-
-pub overflow_add-i : goal.overflow_add-i
-overflow_add-i c = omega arith
-
-pub loop-i-smaller : goal.loop-i-smaller
-loop-i-smaller c = omega arith
-
-pub loop-i-preserved : goal.loop-i-preserved
-loop-i-preserved c = fill_more c.loop-i.invariant c.loop-i-test.true refl
-
 pub returns : goal.returns
 unfolding row_numbers
-returns c = fill_all c.loop-i.invariant c.loop-i-test.false
+returns c = made_by _ _ (λ i. i) (λ i y q k. search rules) _ _ c.from_fn.ensures.items

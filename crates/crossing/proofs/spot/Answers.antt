@@ -1,4 +1,4 @@
-use mathlib.Core.Path.{◌∙◌}
+use Rattle.std.proofs.Common.{◌∙◌}
 use Rattle.crossing.specs.Crossing.{spot_at}
 use Rattle.crossing.proofs.spot.Goals as goal
 

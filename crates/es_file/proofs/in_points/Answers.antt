@@ -1,24 +1,10 @@
-use Rattle.es_file.proofs.FileLaws.{points_more}
-use mathlib.Core.Path.{refl, ◌∙◌}
-use native.Mathlib.Omega.{arith}
-use native.Mathlib.Nat.{le_antisymm}
-use Rattle.limits.specs.Limits.{broken}
-use Rattle.es_file.specs.File.{points_tests}
+use Prim.Native.Nat.{min}
+use Rattle.std.proofs.lemmas.Result.{err_from_is_err_and}
+use Rattle.job.specs.Parts.{points}
+use Rattle.es_file.proofs.FoundLaws.{point_found}
 use Rattle.es_file.proofs.in_points.Goals as goal
-use Rattle.es_file.proofs.in_points.Goals.{then-km-lt-POINTS, else-km-lt-POINTS}
 
-pub loop-i-init : goal.loop-i-init
-unfolding broken points_tests
-loop-i-init c =
-    elim c.if-km-lt-POINTS.branch [
-      | then-km-lt-POINTS w ↦ ((omega arith, omega (arith, w.counted-is, w.if-km-lt-POINTS.true)), refl)
-      | else-km-lt-POINTS w ↦ ((omega arith, omega (arith, w.counted-is, w.if-km-lt-POINTS.false)), refl)
-    ]
-
-pub loop-i-preserved : goal.loop-i-preserved
-loop-i-preserved c = ((omega arith, c.loop-i.invariant.0.1), points_more _ c.loop-i.i c.loop-i.invariant.1 c.in_point.ensures c.or_else-found.ensures)
-
-pub returns : goal.returns
-returns c =
-    let e = le_antisymm c.loop-i.invariant.0.0 c.loop-i-test.false ∙ c.loop-i.invariant.0.1 in
-    rw (← e) c.loop-i.invariant.1
+pub returns-in_err-in_point : goal.returns-in_err-in_point
+returns-in_err-in_point c =
+    let p = err_from_is_err_and c.from_residual.result c.from_residual.ensures.1 in
+    rw (p.1, p.2) (point_found c.args.file.now c.loop-i.i (min c.args.km points) _ _ c.loop-i-test.true c.min-i-end.ensures c.loop-i.invariant (rw c.in_err-in_point.was at c.in_point.ensures))

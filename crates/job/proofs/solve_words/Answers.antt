@@ -1,9 +1,12 @@
-use Rattle.job.proofs.Runs.{parts_are, solved_words}
+use mathlib.Core.Path.{ap, ◌∙◌}
+use Rattle.job.specs.Solved.{solved_from}
+use Rattle.job.proofs.Runs.{parts_are}
 use Rattle.job.proofs.solve_words.Goals as goal
 
 pub returns : goal.returns
 returns c =
-    solved_words _ _ _ _ _ _ _ _ _ _ _ c.solve.ensures c.no_figures.ensures
+    c.solve.ensures
+    ∙ ap (solved_from c.args.rfx.now)
     (parts_are _
     c.count_at-k.ensures
     c.count_at-nang.ensures
@@ -11,8 +14,8 @@ returns c =
     c.number_at-amind.ensures
     c.number_at-ghop.ensures
     c.points_at-fi.ensures
-    c.numbers_at-fvert.ensures
-    c.numbers_at-hprim.ensures
-    c.numbers_at-htrue.ensures
-    c.numbers_at-afac.ensures
-    c.entries_at-ifob.ensures)
+    c.array_at.ensures
+    c.array_at-2.ensures
+    c.array_at-3.ensures
+    c.array_at-4.ensures
+    c.array_at-5.ensures)

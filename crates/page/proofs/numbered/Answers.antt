@@ -1,12 +1,10 @@
-use lib.ListN.{length}
-use Rattle.page.proofs.Numbers.{number_status}
+use Rattle.std.proofs.Common.{length, ◌∙◌, arith}
+use Rattle.system.proofs.StatusLaws.{unrefused}
+use Rattle.page.proofs.Numbers.{most_ten, number_status}
 use Rattle.page.proofs.numbered.Goals as goal
 
-pub returns-clause-value : goal.returns-clause-value
-returns-clause-value c = c.run.ensures.0
+pub invariant_of-result : goal.invariant_of-result
+invariant_of-result c = record { in_help = number_status c.args.job.now (length c.args.answer.now) (c.in-Ok.ensures ∙ c.run.ensures.0) }
 
-pub returns-clause-answer_after : goal.returns-clause-answer_after
-returns-clause-answer_after c = c.run.ensures.1
-
-pub returns-clause-result_value : goal.returns-clause-result_value
-returns-clause-result_value c = number_status c.args.job.now (length c.args.answer.now) c.run.ensures.0
+pub returns-in-Err-clause-value : goal.returns-in-Err-clause-value
+returns-in-Err-clause-value c = unrefused c.run.ensures.0 (omega (arith, most_ten c.args.job.now (length c.args.answer.now))) c.in-Err.ensures.1

@@ -5,10 +5,10 @@ pub returns-then-fvert-freq : goal.returns-then-fvert-freq
 unfolding f2_of top_of
 returns-then-fvert-freq c = simp c.if-fvert-freq.true
 
-pub returns-then-cdel : goal.returns-then-cdel
+pub returns-in-Some : goal.returns-in-Some
 unfolding f2_of top_of
-returns-then-cdel c = simp (c.if-fvert-freq.false, ← c.xm.ensures, ← c.xm-2.ensures, ← c.xm-3.ensures, ← c.cdel-cdel.ensures, c.if-cdel.true, ← c.acos.ensures)
+returns-in-Some c = simp (c.if-fvert-freq.false, ← c.xm.ensures, ← c.xm-2.ensures, ← c.xm-3.ensures, ← c.cdel-cdel.ensures, c.in-Some.ensures.0, ← c.in-Some.ensures.1)
 
-pub returns-else-cdel : goal.returns-else-cdel
+pub returns-in-None : goal.returns-in-None
 unfolding f2_of top_of
-returns-else-cdel c = simp (c.if-fvert-freq.false, ← c.xm.ensures, ← c.xm-2.ensures, ← c.xm-3.ensures, ← c.cdel-cdel.ensures, c.if-cdel.false)
+returns-in-None c = simp (c.if-fvert-freq.false, ← c.xm.ensures, ← c.xm-2.ensures, ← c.xm-3.ensures, ← c.cdel-cdel.ensures, c.in-None.ensures)

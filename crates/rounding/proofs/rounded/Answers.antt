@@ -1,14 +1,14 @@
-use Rattle.rounding.proofs.DecimalsLaws.{float_named, float_far, float_small, float_number}
+use Rattle.rounding.proofs.DecimalsLaws.{float_nan, float_infinity, float_far, float_number}
 use Rattle.rounding.proofs.rounded.Goals as goal
 
-pub returns-then-e-eq255 : goal.returns-then-e-eq255
-returns-then-e-eq255 c = float_named _ _ _ c.if-e-eq255.true
+pub returns-in-Some : goal.returns-in-Some
+returns-in-Some c = let e = c.in-Some.ensures in float_number _ _ _ e.near e.significand e.field c.min.ensures c.fitting.ensures
 
-pub returns-then-e-gt175 : goal.returns-then-e-gt175
-returns-then-e-gt175 c = float_far _ _ _ c.if-e-eq255.false c.if-e-gt175.true
+pub returns-then-w-lt255 : goal.returns-then-w-lt255
+returns-then-w-lt255 c = float_far _ _ _ c.if-w-lt255.true c.in_default.ensures.near
 
-pub returns-then-e-eq0 : goal.returns-then-e-eq0
-returns-then-e-eq0 c = float_small _ _ _ c.if-e-eq255.false c.if-e-gt175.false c.up_to_three-most.ensures.value c.if-e-eq0.true c.fitting.ensures
+pub returns-then-w-gt0 : goal.returns-then-w-gt0
+returns-then-w-gt0 c = float_nan _ _ _ c.if-w-lt255.false c.if-w-gt0.true
 
-pub returns : goal.returns
-returns c = float_number _ _ _ c.if-e-eq255.false c.if-e-gt175.false c.up_to_three-most.ensures.value c.if-e-eq0.false c.fitting-2.ensures
+pub returns-else-w-gt0 : goal.returns-else-w-gt0
+returns-else-w-gt0 c = float_infinity _ _ _ c.if-w-lt255.false c.if-w-gt0.false

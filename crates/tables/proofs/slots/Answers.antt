@@ -1,5 +1,5 @@
-use native.Mathlib.Omega.{arith}
+use Rattle.std.proofs.Common.{arith}
 use Rattle.tables.proofs.slots.Goals as goal
 
-pub loop-s-preserved : goal.loop-s-preserved
-loop-s-preserved c = omega arith
+pub slot-requires : goal.slot-requires
+slot-requires c = omega arith

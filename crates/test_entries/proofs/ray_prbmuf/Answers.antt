@@ -1,9 +1,6 @@
-use borrow.Author.Rules.{rules}
-use mathlib.Core.Path.{sym, ◌∙◌}
+use Rattle.std.proofs.lemmas.Grind.{common_steps}
+use Rattle.std.proofs.Common.{arith}
 use Rattle.test_entries.proofs.ray_prbmuf.Goals as goal
 
-pub returns-in-Value : goal.returns-in-Value
-returns-in-Value c = rw (sym c.prbmuf-answer.ensures ∙ c.in-Value.is) (search rules)
-
-pub returns-in-Refused : goal.returns-in-Refused
-returns-in-Refused c = rw (sym c.prbmuf-answer.ensures ∙ c.in-Refused.is) (search rules)
+pub returns : goal.returns
+returns c = grind (arith, common_steps)

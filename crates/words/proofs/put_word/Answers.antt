@@ -1,26 +1,16 @@
-use native.Mathlib.Nat.{add-zero}
-use native.Mathlib.Numerals.{add-one, add-two, add-three}
-use native.Mathlib.Omega.{arith}
-use lib.ListN.{length-set}
-use Rattle.words.specs.Lists.{put_at}
+use Rattle.std.proofs.Common.{refl, sym, arith}
 use Rattle.words.specs.Words.{bytes_of_word}
+use Rattle.words.proofs.Rests.{rest_long, put_whole_word, put_cut_word}
+use Rattle.words.proofs.ListLaws.{put_past}
 use Rattle.words.proofs.put_word.Goals as goal
 
-pub bounds-out-at-then-at-out : goal.bounds-out-at-then-at-out
-bounds-out-at-then-at-out c = simp length-set (omega arith)
+pub returns-in-Some : goal.returns-in-Some
+unfolding bytes_of_word
+returns-in-Some c = rw c.to_le_bytes-bytes.ensures (put_whole_word c.args.out.now (bytes_of_word c.args.w) c.args.at (omega (arith, c.in-Some.ensures.cases.enough, rest_long c.args.out.now c.args.at)))
 
-pub bounds-out-at-then-at-out-2 : goal.bounds-out-at-then-at-out-2
-bounds-out-at-then-at-out-2 c = simp length-set (omega arith)
-
-pub bounds-out-at-then-at-out-3 : goal.bounds-out-at-then-at-out-3
-bounds-out-at-then-at-out-3 c = simp length-set (omega arith)
+pub returns-in-None : goal.returns-in-None
+unfolding bytes_of_word
+returns-in-None c = put_cut_word c.args.out.now (bytes_of_word c.args.w) _ c.args.at _ (omega (arith, c.if-at-out.false)) refl (omega (arith, c.in-None.ensures.cases)) (rw c.to_le_bytes-bytes.ensures at c.copy_from_slice.ensures.after)
 
 pub returns-then-at-out : goal.returns-then-at-out
-unfolding put_at bytes_of_word
-returns-then-at-out c = simp (add-one, add-two, add-three)
-
-pub returns : goal.returns
-unfolding put_at bytes_of_word
-returns c =
-    let at = c.args.at in
-    cc (add-zero at, add-one at, add-two at, add-three at)
+returns-then-at-out c = sym (put_past c.args.out.now c.args.at _ c.if-at-out.true)

@@ -1,20 +1,14 @@
-use Rattle.angles.specs.Arcsine.{asin_steps}
-use Rattle.angles.proofs.ArcsineLaws.{tiny}
+use Rattle.angles.specs.Arcsine.{below, asin_steps}
+use Rattle.angles.proofs.ArcsineLaws.{asin_falls, tiny}
 use Rattle.angles.proofs.arcsine.steps.Goals as goal
 
--- src/arcsine.rt:32:1
 pub returns-then-t-lt17179869184 : goal.returns-then-t-lt17179869184
 returns-then-t-lt17179869184 c = tiny c.args.t c.if-t-lt17179869184.true
 
--- src/arcsine.rt:32:1
-pub returns-then-is_confirmed : goal.returns-then-is_confirmed
-returns-then-is_confirmed c = c.is_confirmed.ensures c.if-is_confirmed.true
+pub steps-requires-clause-falls : goal.steps-requires-clause-falls
+unfolding below
+steps-requires-clause-falls c = asin_falls c.args.t
 
--- src/arcsine.rt:32:1
-pub returns-then-is_confirmed-2 : goal.returns-then-is_confirmed-2
-returns-then-is_confirmed-2 c = c.is_confirmed-else-is_confirmed.ensures c.if-is_confirmed-2.true
-
--- src/arcsine.rt:32:1
-pub returns-else-is_confirmed-2 : goal.returns-else-is_confirmed-2
-unfolding asin_steps
-returns-else-is_confirmed-2 c = c.search.ensures
+pub returns-else-t-lt17179869184 : goal.returns-else-t-lt17179869184
+unfolding below asin_steps
+returns-else-t-lt17179869184 c = c.steps.ensures

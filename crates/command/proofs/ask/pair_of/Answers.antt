@@ -1,18 +1,18 @@
-use Rattle.words.specs.Lists.{tab}
+use Rattle.std.proofs.Common.{rules, ◌≡◌, codes}
+use Rattle.std.proofs.lemmas.Slice.Eq.{text_from_reads}
 use Rattle.command.proofs.ask.pair_of.Goals as goal
 
-pub returns-then-is : goal.returns-then-is
-unfolding tab
-returns-then-is c = simp (← c.thousandths-said.ensures, ← c.is.ensures, c.if-is.true, ← c.units.ensures)
+pub returns-in_ok-said-in-freq : goal.returns-in_ok-said-in-freq
+returns-in_ok-said-in-freq c =
+    let name : c.args.name.now ≡ codes "freq" = search (rules, text_from_reads) in
+    rw name (search rules)
 
-pub returns-then-is-2 : goal.returns-then-is-2
-unfolding tab
-returns-then-is-2 c = simp (← c.thousandths-said.ensures, ← c.is.ensures, c.if-is.false, ← c.is-2.ensures, c.if-is-2.true, ← c.radians.ensures)
+pub returns-in_ok-said-in-hop : goal.returns-in_ok-said-in-hop
+returns-in_ok-said-in-hop c =
+    let name : c.args.name.now ≡ codes "hop" = search (rules, text_from_reads) in
+    rw name (search rules)
 
-pub returns-then-is-3 : goal.returns-then-is-3
-unfolding tab
-returns-then-is-3 c = simp (← c.thousandths-said.ensures, ← c.is.ensures, c.if-is.false, ← c.is-2.ensures, c.if-is-2.false, ← c.is-3.ensures, c.if-is-3.true, ← c.units-then-is-3.ensures)
-
-pub returns : goal.returns
-unfolding tab
-returns c = simp (← c.thousandths-said.ensures, ← c.is.ensures, c.if-is.false, ← c.is-2.ensures, c.if-is-2.false, ← c.is-3.ensures, c.if-is-3.false)
+pub returns-in_ok-said-in-min : goal.returns-in_ok-said-in-min
+returns-in_ok-said-in-min c =
+    let name : c.args.name.now ≡ codes "min" = search (rules, text_from_reads) in
+    rw name (search rules)

@@ -1,4 +1,5 @@
+use Rattle.std.proofs.Common.{refl}
 use Rattle.command.proofs.ask.twice.Goals as goal
 
-pub returns-in-Put-q : goal.returns-in-Put-q
-returns-in-Put-q c = simp (c.in-Put.is, c.in-Put-q.is)
+pub returns-in-Some-Some : goal.returns-in-Some-Some
+returns-in-Some-Some c = simp (c.in-Some-Some.is-0, c.in-Some-Some.is-1) refl

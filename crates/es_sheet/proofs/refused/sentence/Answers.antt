@@ -1,20 +1,20 @@
-use Rattle.decimal.proofs.WroteLaws.{wrote_as}
+use Rattle.decimal.proofs.PageLaws.{added_as}
 use Rattle.words.specs.Lists.{tab}
-use borrow.Author.Tests.{eq-eqb, ne_eqb}
+use Rattle.es_sheet.proofs.RefusalLaws.{others}
 use Rattle.es_sheet.proofs.refused.sentence.Goals as goal
 
-pub returns-then-number-eq-REFUSAL_JOB : goal.returns-then-number-eq-REFUSAL_JOB
+pub returns-in-Job : goal.returns-in-Job
 unfolding tab
-returns-then-number-eq-REFUSAL_JOB c = wrote_as (rw (eq-eqb c.args.number 1 c.if-number-eq-REFUSAL_JOB.true)) c.text.ensures.wrote
+returns-in-Job c = added_as _ (rw c.in-Job.is) c.text.ensures
 
-pub returns-then-number-eq-REFUSAL_FREQ : goal.returns-then-number-eq-REFUSAL_FREQ
+pub returns-in-Freq : goal.returns-in-Freq
 unfolding tab
-returns-then-number-eq-REFUSAL_FREQ c = wrote_as (rw (ne_eqb c.args.number 1 c.if-number-eq-REFUSAL_JOB.false, eq-eqb c.args.number 5 c.if-number-eq-REFUSAL_FREQ.true)) c.text-then-number-eq-REFUSAL_FREQ.ensures.wrote
+returns-in-Freq c = added_as _ (rw c.in-Freq.is) c.text-in-Freq.ensures
 
-pub returns-then-number-eq-REFUSAL_AMIND : goal.returns-then-number-eq-REFUSAL_AMIND
+pub returns-in-Amind : goal.returns-in-Amind
 unfolding tab
-returns-then-number-eq-REFUSAL_AMIND c = wrote_as (rw (ne_eqb c.args.number 1 c.if-number-eq-REFUSAL_JOB.false, ne_eqb c.args.number 5 c.if-number-eq-REFUSAL_FREQ.false, eq-eqb c.args.number 6 c.if-number-eq-REFUSAL_AMIND.true)) c.text-then-number-eq-REFUSAL_AMIND.ensures.wrote
+returns-in-Amind c = added_as _ (rw c.in-Amind.is) c.text-in-Amind.ensures
 
-pub returns : goal.returns
+pub returns-in_default : goal.returns-in_default
 unfolding tab
-returns c = wrote_as (rw (ne_eqb c.args.number 1 c.if-number-eq-REFUSAL_JOB.false, ne_eqb c.args.number 5 c.if-number-eq-REFUSAL_FREQ.false, ne_eqb c.args.number 6 c.if-number-eq-REFUSAL_AMIND.false)) c.text-2.ensures.wrote
+returns-in_default c = added_as _ (others c.args.broken c.in_default.not-Job c.in_default.not-Freq c.in_default.not-Amind) c.text-in_default.ensures

@@ -1,5 +1,4 @@
-use mathlib.Core.Path.{refl}
 use Rattle.es_sheet.proofs.sheet.empty.Goals as goal
 
 pub returns : goal.returns
-returns c = refl
+returns c = cc

@@ -1,4 +1,4 @@
-use mathlib.Core.Path.{refl}
+use Rattle.std.proofs.Common.{refl}
 use Rattle.findf.proofs.walk.put_row.Goals as goal
 
 pub returns : goal.returns

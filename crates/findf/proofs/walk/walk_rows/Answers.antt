@@ -1,25 +1,21 @@
-use Rattle.std.proofs.Common.{refl, ap, subst, arith}
+use Rattle.std.proofs.Common.{ap, ◌∙◌, subst, arith}
 use Rattle.arith.proofs.RunLaws.{leads_start, leads_more, leads_done}
-use Rattle.findf.specs.Walk.{ANG}
 use Rattle.findf.specs.Requires.{Safe}
 use Rattle.findf.proofs.WalkLaws.{good_safe, steps_fine, search_fine, next_layer_fine, next_cusp_fine, filled_fine}
 use Rattle.findf.specs.Findf.{walk_of, walked_of, answer}
+use Rattle.findf.specs.Rows.{skip_of}
+use Rattle.findf.specs.declared.skip.Skip.{Skip}
 use Rattle.findf.specs.declared.walk.Label.{Label}
 use Rattle.findf.proofs.Fills.{angled}
 use Rattle.findf.proofs.Steps.{searches, next_layers, next_cusps, fills, ends}
 use Rattle.findf.proofs.walk.walk_rows.Goals as goal
-
-pub ahead_of-ahead-requires : goal.ahead_of-ahead-requires
-unfolding ANG
-ahead_of-ahead-requires c = refl
 
 pub loop-w-init : goal.loop-w-init
 unfolding walk_of
 loop-w-init c = (omega arith, (leads_start _ _, c.ahead_of-ahead.ensures))
 
 pub search-w-requires : goal.search-w-requires
-unfolding ANG
-search-w-requires c = (refl, (c.requires.0, (c.requires.1.0, good_safe c.loop-w.invariant.0)))
+search-w-requires c = (c.requires.0, (c.requires.1.0, good_safe c.loop-w.invariant.0))
 
 pub loop-w-smaller-in-Search : goal.loop-w-smaller-in-Search
 loop-w-smaller-in-Search c = (steps_fine c.in-Search.is c.loop-w.invariant.0 c.search-w.ensures (search_fine _ _ _ _ _)).falls
@@ -52,21 +48,10 @@ loop-w-preserved-in-NextCusp c =
     (f.good, (leads_more c.loop-w.invariant.1.0 (next_cusps _ _ _ c.in-NextCusp.is c.next_cusp-w.ensures) f.falls, c.loop-w.invariant.1.1))
 
 pub filling_of-q-requires : goal.filling_of-q-requires
-unfolding ANG
-filling_of-q-requires c = (refl, (c.requires.0, (c.requires.1.1, subst (λ (l : Label). Safe l c.loop-w.w) c.in-Fill.is (good_safe c.loop-w.invariant.0))))
+filling_of-q-requires c = (c.requires.0, (c.requires.1.1, subst (λ (l : Label). Safe l c.loop-w.w) c.in-Fill.is (good_safe c.loop-w.invariant.0)))
 
 pub correction_of-m-requires : goal.correction_of-m-requires
-correction_of-m-requires c = (c.loop-w.invariant.1.1, angled _ _ _ _ _ _ _ _ _ _ (good_safe c.loop-w.invariant.0).ia_cap c.filling_of-q.ensures.0)
-
-pub ahead_of-ahead-requires-in-Fill : goal.ahead_of-ahead-requires-in-Fill
-unfolding ANG
-ahead_of-ahead-requires-in-Fill c = refl
-
-pub overflow_cast-il : goal.overflow_cast-il
-overflow_cast-il c = omega (arith, c.loop-w.invariant.0)
-
-pub put_row-f-requires : goal.put_row-f-requires
-put_row-f-requires c = omega (arith, c.loop-w.invariant.0)
+correction_of-m-requires c = (c.loop-w.invariant.1.1, angled _ _ _ _ _ _ (good_safe c.loop-w.invariant.0).ia_cap c.filling_of-q.ensures.0)
 
 pub filled-w-requires : goal.filled-w-requires
 filled-w-requires c = (c.filling_of-q.ensures.1.1.1, subst (λ (l : Label). Safe l c.loop-w.w) c.in-Fill.is (good_safe c.loop-w.invariant.0))
@@ -77,7 +62,7 @@ loop-w-smaller c = (steps_fine c.in-Fill.is c.loop-w.invariant.0 c.filled-w.ensu
 pub loop-w-preserved : goal.loop-w-preserved
 loop-w-preserved c =
     let f = steps_fine c.in-Fill.is c.loop-w.invariant.0 c.filled-w.ensures (filled_fine _ _ _) in
-    let step = fills _ _ _ c.in-Fill.is c.filling_of-q.ensures c.correction_of-m.ensures c.row_of-t.ensures c.skip_of-s.ensures c.far-d.ensures c.put_row-f.ensures c.filled-w.ensures in
+    let step = fills _ _ _ c.in-Fill.is c.filling_of-q.ensures c.correction_of-m.ensures c.row_of-t.ensures (c.skip_of-s.ensures ∙ ap (λ (s : Skip). skip_of s c.row_of-t.result c.loop-w.w.il) c.skip_in.ensures) c.far-d.ensures c.put_row.ensures c.filled-w.ensures in
     (f.good, (leads_more c.loop-w.invariant.1.0 step f.falls, c.ahead_of-ahead-in-Fill.ensures))
 
 pub returns-in-Done : goal.returns-in-Done

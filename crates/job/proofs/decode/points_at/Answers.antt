@@ -1,6 +1,7 @@
-use mathlib.Core.Path.{sym}
-use Rattle.job.proofs.Runs.{points_five}
+use Rattle.std.proofs.Common.{◌+◌, ◌*◌, rules}
+use Rattle.words.proofs.FromFn.{made_by}
+use Rattle.job.specs.Parts.{numbers_at}
 use Rattle.job.proofs.decode.points_at.Goals as goal
 
 pub returns : goal.returns
-returns c = rw (c.point_at-5.ensures, c.point_at-4.ensures, c.point_at-3.ensures, c.point_at-2.ensures, c.point_at.ensures) (sym (points_five _ _))
+returns c = made_by _ _ (λ i. numbers_at c.args.job.now (c.args.at + 3 * i) 3) (λ i y q k. search rules) _ _ c.from_fn.ensures.items

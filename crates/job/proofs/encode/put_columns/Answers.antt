@@ -3,4 +3,4 @@ use mathlib.Core.Path.{refl}
 use Rattle.job.proofs.encode.put_columns.Goals as goal
 
 pub returns : goal.returns
-returns c = then _ _ _ _ _ _ _ (then _ _ _ _ _ _ _ (then _ _ _ _ _ _ _ (then _ _ _ _ _ _ _ (then _ _ _ _ _ _ _ (then _ _ _ _ _ _ _ (then _ _ _ _ _ _ _ c.put_rows.ensures refl c.put_rows-2.ensures) refl c.put_rows-3.ensures) refl c.put_rows-4.ensures) refl c.put_rows-5.ensures) refl c.put_rows-6.ensures) refl c.put_codes.ensures) refl c.put_codes-2.ensures
+returns c = then _ _ _ _ _ _ _ (then _ _ _ _ _ _ _ (then _ _ _ _ _ _ _ (then _ _ _ _ _ _ _ (then _ _ _ _ _ _ _ (then _ _ _ _ _ _ _ (then _ _ _ _ _ _ _ c.put_array.ensures refl c.put_array-2.ensures) refl c.put_array-3.ensures) refl c.put_array-4.ensures) refl c.put_array-5.ensures) refl c.put_array-6.ensures) refl c.put_array-7.ensures) refl c.put_array-8.ensures

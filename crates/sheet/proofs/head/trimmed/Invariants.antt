@@ -1,9 +1,8 @@
-use lib.ListN.{length}
-use Prim.Native.Nat.{◌≤◌}
+use Rattle.std.proofs.Common.{◌≤◌, length}
 use Rattle.sheet.proofs.head.trimmed.Given as goal
 
 abbrev pub invariant-loop-n : goal.invariant-loop-n
-invariant-loop-n l = l.n ≤ length l.out
+invariant-loop-n l = l.n ≤ length l.text
 
 abbrev pub decreases-loop-n : goal.decreases-loop-n
 decreases-loop-n l = l.n

@@ -1,7 +1,0 @@
-use Prim.Native.Nat.{ℕ}
-use Rattle.curve.specs.Rows.{shown_of}
-use mathlib.Core.Path.{ap, ◌∙◌}
-use Rattle.curve.proofs.row.hop.Goals as goal
-
-pub returns : goal.returns
-returns c = c.in_tenths.ensures ∙ ap (λ (w : ℕ). shown_of w 10) c.bits.ensures

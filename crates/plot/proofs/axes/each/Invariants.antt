@@ -1,0 +1,5 @@
+use Rattle.decimal.specs.Page.{Extends}
+use Rattle.plot.proofs.axes.each.Given as goal
+
+abbrev pub invariant-loop-i : goal.invariant-loop-i
+invariant-loop-i g l = Extends l.fn.page l.page

@@ -1,0 +1,4 @@
+use Rattle.replay.proofs.record.has.Goals as goal
+
+pub returns : goal.returns
+returns g c = cc

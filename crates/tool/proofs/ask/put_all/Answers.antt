@@ -1,4 +1,0 @@
-use Rattle.tool.proofs.ask.put_all.Goals as goal
-
-pub returns : goal.returns
-returns c = cc

@@ -1,6 +1,0 @@
-use Rattle.view.specs.View.{asked_of}
-use Rattle.view.proofs.asked.Goals as goal
-
-pub returns : goal.returns
-unfolding asked_of
-returns c = cc
