@@ -8,7 +8,7 @@ ghost use Rattle.allmodes.specs.AllModes.{reset_of, accumulated, accumulate_of, 
 
 use limits::Refusal;
 
-// The seven mode slots of one hop.
+// The seven mode slots of one hop: an array a column, as the source has it and C passes it.
 #[repr(C)]
 #[derive(Drop)]
 pub struct Zon {
@@ -37,7 +37,7 @@ pub struct Zon {
     pub tlhgh: [f32; 7],
 }
 
-// The accumulated mode list of one frequency, 20 slots.
+// The accumulated mode list of one frequency, 20 slots: an array a column, as the source has it and C passes it.
 #[repr(C)]
 #[derive(Clone, Copy)]
 pub struct AllModes {
@@ -69,7 +69,7 @@ pub struct AllModes {
     pub nmmod: usize,
 }
 
-// What C is answered: the list, and 0 or the number of the limit that refuses.
+// What C is answered, where there is no Result: the list, and 0 or the number of the limit that refuses.
 #[repr(C)]
 #[derive(Drop)]
 pub struct Accumulated {
@@ -91,13 +91,7 @@ impl Zon {
         requires { to ≤ 7 }
         ensures { result ≡ length (held self.now.hp from (to - from)) }
     {
-        let mut n = 0;
-        for i in from..to {
-            if self.hp[i] > 0.0 {
-                n += 1;
-            }
-        }
-        n
+        (from..to).filter(|i| self.hp[*i] > 0.0).count()
     }
 }
 

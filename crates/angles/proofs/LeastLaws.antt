@@ -1,6 +1,6 @@
 -- Where a test that holds at k + 1 holds at k too, there is one place at which it holds before and fails: `least`. Whoever finds such a place, by halving or by a guess, has found
 -- it. Assumes nothing.
-use Rattle.std.proofs.Common.{◌≡◌, ℕ, zero, suc, ◌+◌, ◌-◌, ◌*◌, ◌/◌, ◌<◌, ◌≤◌, Bool, true, false, cond, ◌⊎◌, sym, refl, ap, ◌∙◌, subst, inl, inr, ⊎_elim, true≢false, le_of_eq, le_refl, add-zero, zero-mul, arith, le-leb, leb-true}
+use Rattle.std.proofs.Common.{◌≡◌, ℕ, zero, suc, ◌+◌, ◌-◌, ◌*◌, ◌/◌, ◌<◌, ◌≤◌, Bool, true, false, cond, ◌⊎◌, sym, refl, ap, ◌∙◌, subst, inl, inr, ⊎_elim, true≢false, le_of_eq, add-zero, zero-mul, arith, le-leb, leb-true}
 use native.Mathlib.Decide.{dec_le}
 use borrow.Author.Tests.{lt-leb}
 use Rattle.angles.specs.Least.{first, least}
@@ -86,12 +86,6 @@ unique p top m k f = same k (least p top) (not_less p top m k (least p top) f (l
 abbrev pub Between : (ℕ → Bool) → ℕ → ℕ → ℕ → Type 0
 Between p top lo hi = (lo ≤ hi) × ((hi ≤ top) × (((lo ≡ 0) ⊎ (p (lo - 1) ≡ true)) × ((hi ≡ top) ⊎ (p hi ≡ false))))
 
-pub between_all : (p : ℕ → Bool) (top : ℕ) → Between p top 0 top
-between_all p top = (nothing top, (le_refl top, (inl refl, inl refl)))
-  where
-    nothing : (n : ℕ) → 0 ≤ n
-    nothing n = omega arith
-
 pub between_above : (p : ℕ → Bool) (top lo hi : ℕ) → lo < hi → Between p top lo hi → p ((lo + hi) / 2) ≡ true → Between p top ((lo + hi) / 2 + 1) hi
 between_above p top lo hi h k e = (le lo hi h, (k.1.0, (inr (ap p (back ((lo + hi) / 2)) ∙ e), k.1.1.1)))
   where
@@ -100,15 +94,6 @@ between_above p top lo hi h k e = (le lo hi h, (k.1.0, (inr (ap p (back ((lo + h
 
     back : (m : ℕ) → m + 1 - 1 ≡ m
     back m = omega arith
-
-pub between_below : (p : ℕ → Bool) (top lo hi : ℕ) → lo < hi → Between p top lo hi → p ((lo + hi) / 2) ≡ false → Between p top lo ((lo + hi) / 2)
-between_below p top lo hi h k e = (le lo hi h, (small lo hi h k.1.0, (k.1.1.0, inr e)))
-  where
-    le : (lo hi : ℕ) → lo < hi → lo ≤ (lo + hi) / 2
-    le lo hi h = omega arith
-
-    small : (lo hi : ℕ) → lo < hi → hi ≤ top → (lo + hi) / 2 ≤ top
-    small lo hi h k = omega arith
 
 pub between_none : (p : ℕ → Bool) (top lo hi : ℕ) → Falls p top → hi ≤ lo → Between p top lo hi → lo ≡ least p top
 between_none p top lo hi m h k =

@@ -1,5 +1,5 @@
 // The arccosine.
-ghost use Rattle.std.specs.Prelude.{◌≡◌, ℕ, ◌^◌, ◌≤◌, not, T, is_nan};
+ghost use Rattle.std.specs.Prelude.{◌≡◌, ℕ, ◌^◌, ◌≤◌};
 ghost use Rattle.angles.specs.Requires.{Steep};
 ghost use Rattle.angles.specs.Arccosine.{acos_top, acos_low, acos_high, acos_steps, acos_of};
 
@@ -72,10 +72,9 @@ fn steps(neg: bool, t: u64, h: u32) -> u64
     search::steps(Cosine { neg }, t, h)
 }
 
-fn guess(neg: bool, x: f32) -> u32
-    requires { T (not (is_nan x)) }
-{
-    let g = sine_arc(magnitude(x));
+// By the argument's size.
+fn guess(neg: bool, size: f64) -> u32 {
+    let g = sine_arc(size);
     if neg {
         in_256ths(QUARTER + g)
     } else {
@@ -88,7 +87,10 @@ pub fn acos(x: f32) -> f32
 {
     if is_within(x, 1.0) {
         let neg = x < 0.0;
-        in_steps(steps(neg, scaled_by(57, x), guess(neg, x)), false)
+        in_steps(
+            steps(neg, scaled_by(57, x), guess(neg, magnitude(x))),
+            false,
+        )
     } else {
         0.0 / 0.0
     }

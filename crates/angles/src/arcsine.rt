@@ -1,5 +1,5 @@
 // The arcsine.
-ghost use Rattle.std.specs.Prelude.{◌≡◌, ◌+◌, ◌^◌, ◌<◌, ◌≤◌, not, T, is_nan};
+ghost use Rattle.std.specs.Prelude.{◌≡◌, ◌+◌, ◌^◌, ◌<◌, ◌≤◌};
 ghost use Rattle.angles.specs.Arcsine.{asin_top, asin_low, asin_high, asin_steps, asin_of};
 
 use super::grid::in_steps;
@@ -66,17 +66,16 @@ fn steps(t: u64, h: u32) -> u64
     }
 }
 
-fn guess(x: f32) -> u32
-    requires { T (not (is_nan x)) }
-{
-    in_256ths(sine_arc(magnitude(x)))
+// By the argument's size.
+fn guess(size: f64) -> u32 {
+    in_256ths(sine_arc(size))
 }
 
 pub fn asin(x: f32) -> f32
     ensures { result ≡ asin_of x }
 {
     if is_within(x, 1.0) {
-        in_steps(steps(scaled_by(57, x), guess(x)), x < 0.0)
+        in_steps(steps(scaled_by(57, x), guess(magnitude(x))), x < 0.0)
     } else {
         0.0 / 0.0
     }

@@ -84,16 +84,14 @@ fn steps(t: u64, h: u32) -> u64
     }
 }
 
-fn guess(x: f32) -> u32
-    requires { T (not (is_nan x)) }
-{
-    let w = magnitude(x);
-    if w > 1.0 {
+// By the argument's size.
+fn guess(size: f64) -> u32 {
+    if size > 1.0 {
         // Past 2^23 the recipe's argument is 2^23.
-        let c = if w < 8388608.0 { w } else { 8388608.0 };
+        let c = if size < 8388608.0 { size } else { 8388608.0 };
         in_256ths(QUARTER - tangent_arc(1.0 / c))
     } else {
-        in_256ths(tangent_arc(w))
+        in_256ths(tangent_arc(size))
     }
 }
 
@@ -102,7 +100,7 @@ pub fn atan(x: f32) -> f32
 {
     // NaN alone is not equal to itself.
     if x == x {
-        in_steps(steps(units(x), guess(x)), x < 0.0)
+        in_steps(steps(units(x), guess(magnitude(x))), x < 0.0)
     } else {
         0.0 / 0.0
     }

@@ -6,6 +6,7 @@ use super::difference::difference_of;
 use super::scale::{is_within, scaled_by};
 use super::series::cos_parts;
 
+// Like sin, which says why it stands alone.
 pub fn cos(x: f32) -> f32
     ensures { result ≡ cos_of x }
 {

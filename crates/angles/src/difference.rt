@@ -2,7 +2,7 @@
 ghost use Rattle.std.specs.Prelude.{◌≡◌, ◌+◌, ◌^◌, ◌<◌};
 ghost use Rattle.angles.specs.SinCos.{from_units, difference};
 
-// d * 2^-57, cut to 30 binary places and rounded; negated where neg is true.
+// d * 2^-57, cut to 30 binary places and rounded; negated where neg is true. Beside `in_steps`, which says why.
 fn from_units(d: u64, neg: bool) -> f32
     requires { d < 2 ^ 59 }
     ensures { result ≡ from_units neg d }

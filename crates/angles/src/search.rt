@@ -70,7 +70,7 @@ impl Check {
     }
 }
 
-// The arc of t, in steps of 2^-22, by halving.
+// The arc of t, in steps of 2^-22, by halving: both ends move, so there is no index.
 fn search<A: Arc>(arc: A, t: u64) -> u64
     requires argument { t ≤ A.largest }
     requires falls { Falls (holds (A.low arc t) (A.high arc t)) A.top }

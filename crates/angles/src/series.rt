@@ -35,64 +35,67 @@ fn term(c: u64, v: u64, h: u64) -> u64
     c + high_product(v, h)
 }
 
-// The sine's added terms: the first three, over h for the later ones. n is the angle times 2^61, v its fourth power times 2^55.
-fn sin_plus(n: u64, v: u64, h: u64) -> u64
-    requires { v ≤ 2 ^ 63 }
-    ensures { result ≡ mh n (over d25 (2 ^ 60) (take 3 sin_plus_terms) v h) }
-{
-    let a = term(832868868230977991, v, h);
-    let b = term(4919131752989213764, v, a);
-    let c = term(1152921504606846976, v, b);
-    high_product(n, c)
-}
-
-// Those taken away, likewise. n3 is the angle's third power times 2^57.
-fn sin_minus(n3: u64, v: u64, h: u64) -> u64
-    requires { v ≤ 2 ^ 63 }
-    ensures { result ≡ mh n3 (over d25 (2 ^ 64) (take 3 sin_minus_terms) v h) }
-{
-    let a = term(121144562651778616, v, h);
-    let b = term(1873954953519700481, v, a);
-    let c = term(3074457345618258602, v, b);
-    high_product(n3, c)
-}
-
-fn cos_plus(v: u64) -> u64
-    requires { v ≤ 2 ^ 63 }
-    ensures { result ≡ cos_plus v }
-{
-    let a = term(2084178640928, v, 4184309963);
-    let b = term(473336508529537, v, a);
-    let c = term(40381520883926205, v, b);
-    let d = term(936977476759850240, v, c);
-    let e = term(3074457345618258602, v, d);
-    term(144115188075855872, v, e)
-}
-
-// z is the angle's square times 2^58.
-fn cos_minus(z: u64, v: u64) -> u64
-    requires { v ≤ 2 ^ 63 }
-    ensures { result ≡ cos_minus z v }
-{
-    let a = term(98998485444086, v, 288717387487);
-    let b = term(14200095255886138, v, a);
-    let c = term(666295094584782393, v, b);
-    let d = term(6558842337318951685, v, c);
-    let e = term(4611686018427387904, v, d);
-    high_product(z, e)
-}
-
 // Powers of n * 2^-61: the second times 2^58, the third times 2^57, the fourth times 2^55.
-#[derive(Drop)]
+#[derive(Clone, Copy)]
 struct Powers {
     second: u64,
     third: u64,
     fourth: u64,
+    ghost fourth_bound: { fourth ≤ 2 ^ 63 },
 }
 
+impl Powers {
+    // The sine's added terms at n: the first three, over h for the later ones.
+    fn sin_plus(self, n: u64, h: u64) -> u64
+        ensures { result ≡ mh n (over d25 (2 ^ 60) (take 3 sin_plus_terms) self.fourth h) }
+    {
+        let v = self.fourth;
+        let a = term(832868868230977991, v, h);
+        let b = term(4919131752989213764, v, a);
+        let c = term(1152921504606846976, v, b);
+        high_product(n, c)
+    }
+
+    // Those taken away, likewise.
+    fn sin_minus(self, h: u64) -> u64
+        ensures { result ≡ mh self.third (over d25 (2 ^ 64) (take 3 sin_minus_terms) self.fourth h) }
+    {
+        let v = self.fourth;
+        let a = term(121144562651778616, v, h);
+        let b = term(1873954953519700481, v, a);
+        let c = term(3074457345618258602, v, b);
+        high_product(self.third, c)
+    }
+
+    fn cos_plus(self) -> u64
+        ensures { result ≡ cos_plus self.fourth }
+    {
+        let v = self.fourth;
+        let a = term(2084178640928, v, 4184309963);
+        let b = term(473336508529537, v, a);
+        let c = term(40381520883926205, v, b);
+        let d = term(936977476759850240, v, c);
+        let e = term(3074457345618258602, v, d);
+        term(144115188075855872, v, e)
+    }
+
+    fn cos_minus(self) -> u64
+        ensures { result ≡ cos_minus self.second self.fourth }
+    {
+        let v = self.fourth;
+        let a = term(98998485444086, v, 288717387487);
+        let b = term(14200095255886138, v, a);
+        let c = term(666295094584782393, v, b);
+        let d = term(6558842337318951685, v, c);
+        let e = term(4611686018427387904, v, d);
+        high_product(self.second, e)
+    }
+}
+
+// n's bound stands in sin_parts and cos_parts too: a struct that holds it would be made at each of their callers, to be read here once.
 fn powers_at(n: u64) -> Powers
     requires { n ≤ 2 ^ 63 }
-    ensures { ((result.second ≡ square n) × ((result.third ≡ cube n) × (result.fourth ≡ power n))) × (result.fourth ≤ 2 ^ 63) }
+    ensures { (result.second ≡ square n) × ((result.third ≡ cube n) × (result.fourth ≡ power n)) }
 {
     let z = high_product(n, n);
     Powers {
@@ -115,8 +118,8 @@ pub(crate) fn sin_parts(n: u64) -> Parts
     let d = term(10420893204640, v, 25105859781);
     let e = term(1893346034118151, v, d);
     Parts {
-        plus: sin_plus(n, v, c),
-        minus: sin_minus(p.third, v, e),
+        plus: p.sin_plus(n, c),
+        minus: p.sin_minus(e),
     }
 }
 
@@ -127,8 +130,8 @@ pub(crate) fn short_sin_parts(n: u64) -> Parts
 {
     let p = powers_at(n);
     Parts {
-        plus: sin_plus(n, p.fourth, 24850166697800741),
-        minus: sin_minus(p.third, p.fourth, 1893346034118151),
+        plus: p.sin_plus(n, 24850166697800741),
+        minus: p.sin_minus(1893346034118151),
     }
 }
 
@@ -139,7 +142,7 @@ pub(crate) fn cos_parts(n: u64) -> Parts
 {
     let p = powers_at(n);
     Parts {
-        plus: cos_plus(p.fourth),
-        minus: cos_minus(p.second, p.fourth),
+        plus: p.cos_plus(),
+        minus: p.cos_minus(),
     }
 }

@@ -6,6 +6,7 @@ use super::difference::difference_of;
 use super::scale::{is_within, scaled_by};
 use super::series::sin_parts;
 
+// Like cos but for the series and the sign: one function of both would take them as closures, for these two lines.
 pub fn sin(x: f32) -> f32
     ensures { result ≡ sin_of x }
 {

@@ -20,13 +20,7 @@ pub const VOFL: f32 = 299.79246;
 pub fn abs(x: f32) -> f32
     ensures { result ≡ abs_of x }
 {
-    if x < 0.0 {
-        -x
-    } else if x == 0.0 {
-        0.0
-    } else {
-        x
-    }
+    x.abs()
 }
 
 // a.min(b). Std's leaves open which of two zeros it gives, and the definition does not; so does its max.

@@ -1,11 +1,12 @@
 // By value: a local is lent. Code that has no reference to a struct calls these.
 ghost use Rattle.std.specs.Prelude.{◌≡◌};
 ghost use Rattle.findf.specs.Inputs.{job_by};
-ghost use Rattle.findf.specs.Findf.{findf_of};
-ghost use Rattle.fdist.specs.Fdist.{fdist_of};
+ghost use Rattle.findf.specs.Findf.{walked_by, findf_of};
+ghost use Rattle.fdist.specs.Fdist.{searched_by, fdist_of};
 
-use fdist::{HopModes, Searched};
-use findf::{Reflectrix, Tables, Walked};
+use fdist::{Found, HopModes};
+use findf::{Reflected, Reflectrix, Tables};
+use limits::Refusal;
 
 pub fn findf(
     rfx: Reflectrix,
@@ -15,27 +16,28 @@ pub fn findf(
     amind: f32,
     fi: [[f32; 3]; 5],
     tables: Tables,
-) -> Walked
-    ensures { result ≡ findf_of rfx (job_by k nang freq amind fi tables) }
+) -> Result<Reflected, Refusal>
+    ensures { walked_by result rfx ≡ findf_of rfx (job_by k nang freq amind fi tables) }
 {
     let mut lent = rfx;
-    let r = super::findf(&mut lent, k, nang, freq, amind, fi, tables);
-    Walked {
-        refusal: r.refusal,
-        looks: r.looks,
-        rfx: lent,
-    }
+    let looks = super::findf(&mut lent, k, nang, freq, amind, fi, tables)?;
+    Ok(Reflected { looks, rfx: lent })
 }
 
-pub fn fdist(m: HopModes, rfx: Reflectrix, ghop: f32, amind: f32, freq: f32) -> Searched
-    ensures { result ≡ fdist_of m rfx ghop amind freq }
+pub fn fdist(
+    m: HopModes,
+    rfx: Reflectrix,
+    ghop: f32,
+    amind: f32,
+    freq: f32,
+) -> Result<Found, Refusal>
+    ensures { searched_by result m ≡ fdist_of m rfx ghop amind freq }
 {
     let mut lent = m;
-    let r = super::fdist(&mut lent, &rfx, ghop, amind, freq);
-    Searched {
-        refusal: r.refusal,
-        pairs: r.pairs,
-        rays: r.rays,
+    let counts = super::fdist(&mut lent, &rfx, ghop, amind, freq)?;
+    Ok(Found {
+        pairs: counts.pairs,
+        rays: counts.rays,
         m: lent,
-    }
+    })
 }

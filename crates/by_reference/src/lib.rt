@@ -1,32 +1,26 @@
-// findf and fdist as the Rust has them, over a reflectrix and slots that the caller lends. A refusal leaves what was lent as it was.
+// findf and fdist as the Rust has them, over a reflectrix and slots that the caller lends. A refusal leaves what was lent as it was. The arguments are those of findf and fdist, one by one.
 #![tactic(auto)]
 
 ghost use Rattle.std.specs.Prelude.{◌≡◌};
 ghost use Rattle.findf.specs.Inputs.{job_by};
-ghost use Rattle.findf.specs.Findf.{findf_of};
+ghost use Rattle.findf.specs.Findf.{walked_with, findf_of};
 ghost use Rattle.fdist.specs.Fdist.{fdist_of};
-ghost use Rattle.by_reference.specs.ByReference.{walked_with, searched_with};
+ghost use Rattle.by_reference.specs.ByReference.{searched_with};
 
 use fdist::HopModes;
 use findf::{Reflectrix, Tables};
+use limits::Refusal;
 
 pub mod lending;
 
-// The refusal's number, 0 where there is none; the turns of the inner loop.
-#[derive(Drop)]
-pub struct FindfResult {
-    pub refusal: u32,
-    pub looks: u32,
-}
-
-// The refusal's number, 0 where there is none; the pairs tried; the rays.
-#[derive(Drop)]
-pub struct FdistResult {
-    pub refusal: u32,
+// The pairs tried, and the rays.
+#[derive(Clone, Copy)]
+pub struct Counts {
     pub pairs: u32,
     pub rays: u32,
 }
 
+// The turns of the inner loop.
 pub fn findf(
     rfx: &mut Reflectrix,
     k: usize,
@@ -35,25 +29,27 @@ pub fn findf(
     amind: f32,
     fi: [[f32; 3]; 5],
     tables: Tables,
-) -> FindfResult
+) -> Result<u32, Refusal>
     ensures { walked_with result rfx.new ≡ findf_of rfx.old (job_by k nang freq amind fi tables) }
 {
-    let w = findf::findf(*rfx, k, nang, freq, amind, fi, tables);
-    *rfx = w.rfx;
-    FindfResult {
-        refusal: w.refusal,
-        looks: w.looks,
-    }
+    let walked = findf::findf(*rfx, k, nang, freq, amind, fi, tables)?;
+    *rfx = walked.rfx;
+    Ok(walked.looks)
 }
 
-pub fn fdist(m: &mut HopModes, rfx: &Reflectrix, ghop: f32, amind: f32, freq: f32) -> FdistResult
+pub fn fdist(
+    m: &mut HopModes,
+    rfx: &Reflectrix,
+    ghop: f32,
+    amind: f32,
+    freq: f32,
+) -> Result<Counts, Refusal>
     ensures { searched_with result m.new ≡ fdist_of m.old rfx.now ghop amind freq }
 {
-    let s = fdist::fdist(*m, *rfx, ghop, amind, freq);
-    *m = s.m;
-    FdistResult {
-        refusal: s.refusal,
-        pairs: s.pairs,
-        rays: s.rays,
-    }
+    let found = fdist::fdist(*rfx, ghop, amind, freq)?;
+    *m = found.m;
+    Ok(Counts {
+        pairs: found.pairs,
+        rays: found.rays,
+    })
 }

@@ -3,8 +3,9 @@
 
 mod say;
 
-use fdist::{HopModes, Searched};
-use findf::{Reflectrix, Tables, Walked};
+use fdist::HopModes;
+use findf::{Reflectrix, Tables};
+use limits::Refusal;
 use std::io;
 
 // No number is 0. The first hop lengths lie below the asked one, at it, above it and below it again.
@@ -78,23 +79,8 @@ fn slots(rt: &impl Print, m: &HopModes) -> io::Result<()> {
     say::floats(rt, "afmod", &m.afmod)
 }
 
-fn walked(rt: &impl Print, title: &str, w: &Walked) -> io::Result<()> {
-    println!(rt; "{title}")?;
-    say::numbers(rt, "refusal", &[w.refusal])?;
-    say::numbers(rt, "looks", &[w.looks])?;
-    reflectrix(rt, &w.rfx)
-}
-
-fn searched(rt: &impl Print, title: &str, s: &Searched) -> io::Result<()> {
-    println!(rt; "{title}")?;
-    say::numbers(rt, "refusal", &[s.refusal])?;
-    say::numbers(rt, "pairs", &[s.pairs])?;
-    say::numbers(rt, "rays", &[s.rays])?;
-    slots(rt, &s.m)
-}
-
 // A walk over layers E and F2 at 5 MHz, of nang angles.
-fn walk(nang: usize) -> Walked {
+fn walk(rfx: &mut Reflectrix, nang: usize) -> Result<u32, Refusal> {
     let mut fvert = [7.0; 30];
     fvert[9] = 3.0;
     let tables = Tables {
@@ -105,16 +91,35 @@ fn walk(nang: usize) -> Walked {
         ifob: [6000; 1200],
     };
     let fi = [[4.0, 0.0, 7.0]; 5];
-    by_reference::lending::findf(used_reflectrix(), 2, nang, 5.0, 3.0, fi, tables)
+    by_reference::findf(rfx, 2, nang, 5.0, 3.0, fi, tables)
 }
 
-fn search(ghop: f32) -> Searched {
-    by_reference::lending::fdist(used_slots(), used_reflectrix(), ghop, 3.0, 5.0)
+fn walked(rt: &impl Print, title: &str, nang: usize) -> io::Result<()> {
+    let mut rfx = used_reflectrix();
+    let looks = walk(&mut rfx, nang);
+    println!(rt; "{title}")?;
+    say::numbers(rt, "refusal", &[limits::code(looks)])?;
+    say::numbers(rt, "looks", &[looks.unwrap_or(0)])?;
+    reflectrix(rt, &rfx)
+}
+
+fn searched(rt: &impl Print, title: &str, ghop: f32) -> io::Result<()> {
+    let mut m = used_slots();
+    let counts = by_reference::fdist(&mut m, &used_reflectrix(), ghop, 3.0, 5.0);
+    println!(rt; "{title}")?;
+    say::numbers(rt, "refusal", &[limits::code(counts)])?;
+    let (pairs, rays) = match counts {
+        Ok(counts) => (counts.pairs, counts.rays),
+        Err(_) => (0, 0),
+    };
+    say::numbers(rt, "pairs", &[pairs])?;
+    say::numbers(rt, "rays", &[rays])?;
+    slots(rt, &m)
 }
 
 fn main(rt: HostRuntime) -> io::Result<()> {
-    walked(&rt, "findf, nang 30", &walk(30))?;
-    walked(&rt, "findf, nang 41", &walk(41))?;
-    searched(&rt, "fdist, ghop 0.5", &search(0.5))?;
-    searched(&rt, "fdist, ghop 5", &search(5.0))
+    walked(&rt, "findf, nang 30", 30)?;
+    walked(&rt, "findf, nang 41", 41)?;
+    searched(&rt, "fdist, ghop 0.5", 0.5)?;
+    searched(&rt, "fdist, ghop 5", 5.0)
 }

@@ -12,7 +12,7 @@ pub struct Change {
     pub bits: u32,
 }
 
-// What is wrong with a pair.
+// What is wrong with a pair. That there is no pair is the caller's `None`.
 #[derive(Clone, Copy, Debug, PartialEq, Eq)]
 pub enum PairError {
     NoName,
@@ -46,7 +46,7 @@ pub fn pair_of(name: &[u8], number: &[u8]) -> Result<Change, PairError>
     }
 }
 
-// Whether both change the same word.
+// Whether both change the same word, whatever becomes of it: the derived `==` asks for the same bits too.
 pub fn twice(p: Option<Change>, q: Option<Change>) -> bool
     ensures { result ≡ twice_of p q }
 {

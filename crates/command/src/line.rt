@@ -15,6 +15,7 @@ pub enum Verb {
     Help,
 }
 
+// No `TryFrom`: its error would say nothing.
 pub fn verb_of(word: &[u8]) -> Option<Verb>
     ensures { result ≡ verb_of word.now }
 {

@@ -7,17 +7,11 @@ ghost use Rattle.job.specs.Parts.{number_at, numbers_at};
 ghost use Rattle.job.specs.Answer.{column_rows};
 ghost use Rattle.crossing.specs.Crossing.{row_numbers, numbered_rows, numbered_of, first_row_of, spot_at, crossed_at, across_cusp};
 
-use fdist::Searched;
+use fdist::HopModes;
 use findf::Reflectrix;
 use job::layout;
 use std::array;
-use view::View;
-
-fn number(bytes: &[u8], at: usize) -> f32
-    ensures { result ≡ number_at bytes.now at }
-{
-    words::float(view::word(bytes, at))
-}
+use view::{View, number};
 
 // A column of the answer's numbers.
 fn column(answer: &[u8], at: usize) -> [f32; 45]
@@ -55,18 +49,21 @@ fn numbered_rows(answer: &[u8]) -> Reflectrix
     }
 }
 
-// The search over them.
-fn numbered(view: View) -> Searched
-    ensures { result ≡ numbered_of view.entry.job.now view.entry.answer.now }
+// The slots that a search over them leaves.
+fn numbered(view: View) -> HopModes
+    ensures { result ≡ (numbered_of view.entry.job.now view.entry.answer.now).m }
 {
     let rfx = numbered_rows(view.answer);
-    fdist::fdist_over(
-        job::no_slots(),
+    let found = fdist::fdist_over(
         &rfx,
         number(view.job, view::GHOP),
         number(view.job, view::AMIND),
         number(view.job, view::FREQ),
-    )
+    );
+    match found {
+        Ok(found) => found.m,
+        Err(_) => job::no_slots(),
+    }
 }
 
 // The row that the ray of slot s begins at.
@@ -74,7 +71,7 @@ fn first_row(view: View, s: usize) -> usize
     requires { s < 6 }
     ensures { result ≡ first_row_of view.entry.job.now view.entry.answer.now s }
 {
-    numbered(view).m.itmod[s] as usize
+    numbered(view).itmod[s] as usize
 }
 
 // Whether rows i and i + 1 give a spot between them.

@@ -1,11 +1,12 @@
 // The rows of a reflectrix as a drawn curve, in SVG: a line for each layer, a dashed one where the layer changes, a mark for each row.
 #![tactic(auto, using(decimal::proofs::PageLaws::extends))]
 
+ghost use Rattle.std.specs.Prelude.{◌≤◌};
 ghost use Rattle.decimal.specs.Page.{Extends};
 
 use decimal::Page;
 use job::layout;
-use view::View;
+use view::{Layer, View};
 
 mod row;
 
@@ -15,11 +16,18 @@ pub use row::{
     in_thousandths, is_number,
 };
 
-// Where the axes end: in 0.1 km and in 0.001 deg.
+// Where the axes end: in 0.1 km and in 0.001 deg. What is drawn by one end alone takes that one.
 #[derive(Clone, Copy)]
 pub struct Ends {
     pub across: u32,
     pub up: u32,
+}
+
+// Where the line of the asked length stands.
+pub fn asked_line(view: View) -> u32
+    ensures { (640 ≤ result) × (result ≤ 6400) }
+{
+    scale::asked_line(farthest(view), in_tenths(view.asked()))
 }
 
 // The places of a row.
@@ -57,18 +65,18 @@ fn jumps(from: Row, to: Row) -> bool {
     from.drawn() && to.drawn() && from.layer() != to.layer()
 }
 
-fn colour(layer: u32, page: &mut Page)
+fn colour(layer: Layer, page: &mut Page)
     ensures { Extends page.old page.new }
 {
     match layer {
-        1 => page.text(b"#c04a00"),
-        2 => page.text(b"#00805a"),
-        _ => page.text(b"#0060a8"),
+        Layer::E => page.text(b"#c04a00"),
+        Layer::F1 => page.text(b"#00805a"),
+        Layer::F2 => page.text(b"#0060a8"),
     }
 }
 
 // The end of a layer's line.
-fn stroke(layer: u32, page: &mut Page)
+fn stroke(layer: Layer, page: &mut Page)
     ensures { Extends page.old page.new }
 {
     page.text(b"\" stroke=\"");
@@ -85,7 +93,7 @@ fn line(row: Row, ends: Ends, page: &mut Page)
     if previous(row).is_some_and(|from| joined(from, row)) {
         page.filled(b"L@At0 @Bt0", &v);
         if !goes_on {
-            stroke(row.layer(), page);
+            stroke(row.layer().into(), page);
         }
     } else if goes_on {
         page.filled(b"<path d=\"M@At0 @Bt0", &v);
@@ -108,7 +116,7 @@ fn jump(row: Row, ends: Ends, page: &mut Page)
 }
 
 // The outline of a layer's mark: dot, square, triangle.
-fn outline(layer: u32, x: u32, y: u32, page: &mut Page)
+fn outline(layer: Layer, x: u32, y: u32, page: &mut Page)
     ensures { Extends page.old page.new }
 {
     let v = [
@@ -119,14 +127,14 @@ fn outline(layer: u32, x: u32, y: u32, page: &mut Page)
         y.saturating_sub(52),
     ];
     match layer {
-        1 => page.filled(b"<circle cx=\"@At0\" cy=\"@Bt0\" r=\"4.2\" ", &v),
-        2 => page.filled(b"<path d=\"M@Ct0 @Dt0h8v8h-8z\" ", &v),
-        _ => page.filled(b"<path d=\"M@At0 @Et0l5 9.2h-10z\" ", &v),
+        Layer::E => page.filled(b"<circle cx=\"@At0\" cy=\"@Bt0\" r=\"4.2\" ", &v),
+        Layer::F1 => page.filled(b"<path d=\"M@Ct0 @Dt0h8v8h-8z\" ", &v),
+        Layer::F2 => page.filled(b"<path d=\"M@At0 @Et0l5 9.2h-10z\" ", &v),
     }
 }
 
 // A layer's mark at a place.
-pub fn mark(layer: u32, x: u32, y: u32, hollow: bool, page: &mut Page)
+pub fn mark(layer: Layer, x: u32, y: u32, hollow: bool, page: &mut Page)
     ensures { Extends page.old page.new }
 {
     outline(layer, x, y, page);
@@ -151,11 +159,12 @@ fn row_mark(row: Row, ends: Ends, page: &mut Page)
 {
     if row.drawn() {
         let [x, y] = places(row, ends);
-        mark(row.layer(), x, y, hollow(row), page);
+        mark(row.layer().into(), x, y, hollow(row), page);
         page.text(b"\n");
     }
 }
 
+// Each crate that draws has its own `each`: a public one would have to require what its closure does, and no public function requires anything.
 fn each<F: Fn(Row, &mut Page)>(view: View, page: &mut Page, draw: F)
     requires callable { F.IsAlwaysCallable draw }
     requires extends { (row : _) (p : _) (q : _) → F.post draw row p tt q → Extends p.now q.now }

@@ -24,7 +24,7 @@ pub fn in_tenths(w: u32) -> u32
     0
 }
 
-// An angle in 0.001 deg; 0 below 0.
+// An angle in 0.001 deg; 0 below 0. One function for both would take rounding's as a closure and require what it gives, which is longer.
 pub fn in_thousandths(w: u32) -> u32
     ensures { result ≡ shown_of w 1000 }
 {
@@ -51,7 +51,7 @@ impl Row<'_> {
         view::word(self.view.answer, column + self.r)
     }
 
-    // 1 E, 2 F1, 3 F2.
+    // Its layer's number, which may be none of the three: rows of one number are joined and counted.
     pub(crate) fn layer(self) -> u32
         ensures { result ≡ layer_of self.entry.view.answer.now self.entry.r }
     {
@@ -105,7 +105,7 @@ impl Row<'_> {
     }
 }
 
-// The largest of what the rows give; 0 where none gives more.
+// The largest of what the rows give; 0 where none gives more. A loop: a chain's closure would call `of`, and would have to require again what is required here, and it cannot name `f`.
 #[tactic(auto, using(crate::proofs::RowLaws::largest_steps))]
 fn largest<F: Fn(Row) -> u32>(view: View, of: F) -> u32
     ghost f: { ℕ → ℕ }
@@ -144,7 +144,7 @@ pub fn highest(view: View) -> u32
     )
 }
 
-// How many of the answer's rows are so.
+// How many of the answer's rows are so. A loop for the same reason.
 #[tactic(auto, using(crate::proofs::RowLaws::count_steps))]
 fn count<F: Fn(Row) -> bool>(view: View, is_so: F) -> u32
     ghost so: { ℕ → Bool }
@@ -160,6 +160,7 @@ fn count<F: Fn(Row) -> bool>(view: View, is_so: F) -> u32
     n
 }
 
+// Of those that have this layer's number.
 pub fn count_of_layer(view: View, layer: u32) -> u32
     ensures value { result ≡ count_of (λ r. layer_of view.entry.answer.now r == layer) (rows_of view.entry.answer.now) }
     ensures upper_bound { result ≤ 45 }

@@ -1,9 +1,11 @@
 -- Laws of texts added to a page one after the other. Assumes nothing.
-use Rattle.std.proofs.Common.{◌≡◌, ℕ, zero, suc, ◌+◌, ◌-◌, ◌<◌, ◌≤◌, List, [], ◌∷◌, ◌++◌, length, get_or, take, drop, replicate, refl, sym, ap, ◌∙◌, append_assoc, append-nil, add-one, arith, length-append, length-take, min}
+use Rattle.std.proofs.Common.{◌≡◌, ℕ, zero, suc, ◌+◌, ◌-◌, ◌<◌, ◌≤◌, Bool, true, false, List, [], ◌∷◌, ◌++◌, length, get_or, set, take, drop, replicate, refl, sym, ap, ◌∙◌, append_assoc, append-nil, add-one, arith, length-append, length-take, min, leb-true, leb-false}
+use lib.Dec.{leb}
 use native.Mathlib.Nat.{sub-zero}
 use Rattle.std.proofs.Math.Seq.{drop-append_seam, take-append-add}
 use lib.Seq.{drop-length, take-suc, take_all}
-use Rattle.decimal.specs.Page.{Written, added, shortened, Extends}
+use Rattle.std.proofs.lemmas.List.{drop-drop, length-drop, take_more_set, drop-set-lt, drop_all, drop-append-le, take-append-drop, take-take}
+use Rattle.decimal.specs.Page.{Written, added, shortened, Used, used, more, Extends}
 
 take_none : (n : ℕ) → take {A = ℕ} n [] ≡ []
 take_none zero = refl
@@ -17,15 +19,14 @@ take_after (suc n) (b ∷ s) t =
     let less : suc n - length (b ∷ s) ≡ n - length s = omega arith in
     rw less (ap (λ (l : List ℕ). b ∷ l) (take_after n s t))
 
-pub added_none : (p : Written) → added p [] ≡ p
-unfolding added
-added_none p = rw (take_none, append-nil, sub-zero) refl
+module _ (p : Written) where
+  pub added_none : added p [] ≡ p
+  unfolding added
+  added_none = rw (take_none, append-nil) refl
 
-pub added_added : (p : Written) (s t : List ℕ) → added (added p s) t ≡ added p (s ++ t)
-unfolding added
-added_added p s t =
-    let less : p.room - length s - length t ≡ p.room - length (s ++ t) = omega (arith, length-append s t) in
-    rw (append_assoc, take_after, less) refl
+  pub added_added : (s t : List ℕ) → added (added p s) t ≡ added p (s ++ t)
+  unfolding added
+  added_added s t = rw (length-drop, append_assoc, take_after, drop-drop, length-append) refl
 
 -- for a chain of calls by hand
 pub added_then : (p : Written) (s t : List ℕ) {q r : Written} → q ≡ added p s → r ≡ added q t → r ≡ added p (s ++ t)
@@ -51,40 +52,97 @@ added_again p n b = rw (added_added, replicate_more) refl
 -- what a chain of calls and a loop over a page need
 pub ruleset pages = (added_none, added_added, added_next, added_all, added_again, append_assoc)
 
-pub extends_self : (p : Written) → added p (drop (length p.text) p.text) ≡ p
-extends_self p = rw drop-length (added_none p)
+-- ---- what extends a page
 
 cut_again : (n : ℕ) (s : List ℕ) → take n (take n s) ≡ take n s
 cut_again n s = take_all n (take n s) (omega (arith, length-take n s))
 
-pub extends_added : (p : Written) (s : List ℕ) → added p (drop (length p.text) (added p s).text) ≡ added p s
-unfolding added
-extends_added p s =
-    let left : p.room - length (take p.room s) ≡ p.room - length s = omega (arith, length-take p.room s) in
-    rw (drop-append_seam, cut_again, left) refl
+module _ (u : Used) where
+  pub more_more : (s t : List ℕ) → more (more u s) t ≡ more u (s ++ t)
+  unfolding more
+  more_more s t =
+      let less : u.room - length s - length t ≡ u.room - length (s ++ t) = omega (arith, length-append s t) in
+      rw (append_assoc, take_after, less) refl
 
-extends_by : (p q : Written) (s : List ℕ) → q ≡ added p s → Extends p q
-extends_by p q s e = rw e (extends_added p s)
+  pub extends_self : more u (drop (length u.text) u.text) ≡ u
+  unfolding more
+  extends_self = rw (drop-length, take_none, append-nil, sub-zero) refl
+
+  pub extends_more : (s : List ℕ) → more u (drop (length u.text) (more u s).text) ≡ more u s
+  unfolding more
+  extends_more s =
+      let left : u.room - length (take u.room s) ≡ u.room - length s = omega (arith, length-take u.room s) in
+      rw (drop-append_seam, cut_again, left) refl
+
+pub used_added : (p : Written) (s : List ℕ) → used (added p s) ≡ more (used p) s
+unfolding used added more
+used_added p s = rw length-drop refl
+
+-- that a chain of calls or a loop extends the page
+pub ruleset extends = (extends_self, more_more, extends_more, used_added)
+
+-- ---- a page cut back to no less than it was
 
 -- what is cut is not the text before
-cut_added : (p : Written) (m : List ℕ) (n : ℕ) → length p.text ≤ n → shortened (added p m) n ≡ added p (take (n - length p.text) (take p.room m))
-unfolding added shortened
-cut_added p m n h =
-    let k = n - length p.text in
-    let w = take k (take p.room m) in
-    let long : length (take p.room m) ≡ min p.room (length m) = length-take p.room m in
-    let kept : length w ≡ min k (length (take p.room m)) = length-take k (take p.room m) in
-    let both : length (p.text ++ take p.room m) ≡ length p.text + length (take p.room m) = length-append p.text (take p.room m) in
-    let place : n ≡ length p.text + k = omega arith in
-    let text : take n (p.text ++ take p.room m) ≡ p.text ++ w = ap (λ (j : ℕ). take j (p.text ++ take p.room m)) place ∙ take-append-add p.text (take p.room m) k in
-    let fits : take p.room w ≡ w = take_all p.room w (omega (arith, long, kept)) in
-    let room : p.room - length m + (length (p.text ++ take p.room m) - n) ≡ p.room - length w = omega (arith, long, kept, both) in
-    rw fits (rw (text, room) refl)
+cut_more : (u : Used) (m : List ℕ) (q : Written) (n : ℕ) → used q ≡ more u m → length u.text ≤ n → used (shortened q n) ≡ more u (take (n - length u.text) (take u.room m))
+unfolding more used shortened
+cut_more u m q n e h =
+    let k = n - length u.text in
+    let w = take k (take u.room m) in
+    let text : q.text ≡ u.text ++ take u.room m = ap (λ (v : Used). v.text) e in
+    let left : length q.rest ≡ u.room - length m = ap (λ (v : Used). v.room) e in
+    let long : length (take u.room m) ≡ min u.room (length m) = length-take u.room m in
+    let kept : length w ≡ min k (length (take u.room m)) = length-take k (take u.room m) in
+    let both : length (u.text ++ take u.room m) ≡ length u.text + length (take u.room m) = length-append u.text (take u.room m) in
+    let place : n ≡ length u.text + k = omega arith in
+    let cut : take n (u.text ++ take u.room m) ≡ u.text ++ w = ap (λ (j : ℕ). take j (u.text ++ take u.room m)) place ∙ take-append-add u.text (take u.room m) k in
+    let fits : take u.room w ≡ w = take_all u.room w (omega (arith, long, kept)) in
+    let behind : length (drop n (u.text ++ take u.room m) ++ q.rest) ≡ u.room - length w =
+    length-append (drop n (u.text ++ take u.room m)) q.rest ∙ omega (arith, length-drop n (u.text ++ take u.room m), left, long, kept, both) in
+    rw (text, fits, cut, behind) refl
+
+used_text : (p : Written) → (used p).text ≡ p.text
+unfolding used
+used_text p = refl
 
 pub extends_shortened : (p q : Written) (n : ℕ) → Extends p q → length p.text ≤ n → Extends p (shortened q n)
 extends_shortened p q n a h =
-    let m = drop (length p.text) q.text in
-    extends_by p (shortened q n) (take (n - length p.text) (take p.room m)) (ap (λ (r : Written). shortened r n) (sym a) ∙ cut_added p m n h)
+    let u = used p in
+    let m = drop (length u.text) (used q).text in
+    let k : length u.text ≤ n = rw (used_text p) h in
+    rw (cut_more u m q n (sym a) k) (extends_more u (take (n - length u.text) (take u.room m)))
 
--- and that such a chain or loop extends it
-pub ruleset extends = (extends_self, added_added, extends_added)
+-- ---- by the lent bytes and how many of them are written
+
+abbrev pub page_of : List ℕ → ℕ → Written
+page_of bytes end = record { text = take end bytes; rest = drop end bytes }
+
+-- for `put`
+pub put_one : (bytes : List ℕ) (end b : ℕ) → end < length bytes → page_of (set bytes end b) (end + 1) ≡ added (page_of bytes end) (b ∷ [])
+unfolding added
+put_one bytes end b h =
+    let room : length (drop end bytes) ≡ suc (length bytes - end - 1) = length-drop end bytes ∙ omega (arith, h) in
+    let one : take (suc (length bytes - end - 1)) (b ∷ []) ≡ b ∷ [] = ap (λ (l : List ℕ). b ∷ l) (take_none (length bytes - end - 1)) in
+    rw (take_more_set bytes end b h, drop-set-lt (end + 1) bytes end b (omega arith), room, one, drop-drop) refl
+
+-- for `truncate`
+pub cut_back : (bytes : List ℕ) (end n : ℕ) → end ≤ length bytes → page_of bytes (min end n) ≡ shortened (page_of bytes end) n
+unfolding shortened
+cut_back bytes end n h = by (leb n end) refl
+  where
+    long : length (take end bytes) ≡ end
+    long = length-take end bytes ∙ omega (arith, h)
+
+    few : n ≤ end → page_of bytes (min end n) ≡ record { text = take n (take end bytes); rest = drop n (take end bytes) ++ drop end bytes }
+    few l =
+        let m : min end n ≡ n = omega (arith, l) in
+        rw (m, ← drop-append-le n (take end bytes) (drop end bytes) (rw long l), take-append-drop, take-take n end bytes l) refl
+
+    all : end < n → page_of bytes (min end n) ≡ record { text = take n (take end bytes); rest = drop n (take end bytes) ++ drop end bytes }
+    all l =
+        let m : min end n ≡ end = omega (arith, l) in
+        rw (m, take_all n (take end bytes) (omega (arith, long, l)), drop_all n (take end bytes) (omega (arith, long, l))) refl
+
+    by : (b : Bool) → leb n end ≡ b → page_of bytes (min end n) ≡ record { text = take n (take end bytes); rest = drop n (take end bytes) ++ drop end bytes }
+    by true e = few (leb-true n end e)
+    by false e = all (leb-false n end e)

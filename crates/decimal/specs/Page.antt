@@ -1,27 +1,38 @@
 -- A page of text, as a caller sees it.
-use Rattle.std.specs.Prelude.{ℕ, ◌≡◌, ◌+◌, ◌-◌, List, [], ◌++◌, length, take, drop}
+use Rattle.std.specs.Prelude.{ℕ, ◌≡◌, ◌-◌, List, [], ◌++◌, length, take, drop}
 use Rattle.rounding.specs.Decimals.{digits}
 
--- what is written, and how many bytes more there is room for
+-- what is written, and the lent bytes behind it
 pub record Written : Type 0 where
+  pub text : List ℕ
+  pub rest : List ℕ
+
+-- nothing yet, on these bytes
+abbrev pub blank : List ℕ → Written
+blank bytes = record { text = []; rest = bytes }
+
+-- the text s behind it, as far as there is room; no other byte changes
+unfoldable pub added : Written → List ℕ → Written
+added p s = record { text = p.text ++ take (length p.rest) s; rest = drop (length s) p.rest }
+
+-- no more than the first n bytes of it: the others stand behind it, as they are
+unfoldable pub shortened : Written → ℕ → Written
+shortened p n = record { text = take n p.text; rest = drop n p.text ++ p.rest }
+
+-- the text, and for how many bytes more there is room
+pub record Used : Type 0 where
   pub text : List ℕ
   pub room : ℕ
 
--- nothing yet, on so many bytes
-abbrev pub blank : ℕ → Written
-blank n = record { text = []; room = n }
+unfoldable pub used : Written → Used
+used p = record { text = p.text; room = length p.rest }
 
--- the text s behind it, as far as there is room
-unfoldable pub added : Written → List ℕ → Written
-added p s = record { text = p.text ++ take p.room s; room = p.room - length s }
+unfoldable pub more : Used → List ℕ → Used
+more u s = record { text = u.text ++ take u.room s; room = u.room - length s }
 
--- q is p with what it has behind p's text added: what was written stays, and there is room for no more than before
+-- q is p with what it has behind p's text: what was written stays, and there is room for no more than before
 abbrev pub Extends : Written → Written → Type 0
-Extends p q = added p (drop (length p.text) q.text) ≡ q
-
--- no more than the first n bytes of it
-unfoldable pub shortened : Written → ℕ → Written
-shortened p n = record { text = take n p.text; room = p.room + (length p.text - n) }
+Extends p q = more (used p) (drop (length (used p).text) (used q).text) ≡ used q
 
 -- a word's eight hex digits
 abbrev pub hex_text : ℕ → List ℕ

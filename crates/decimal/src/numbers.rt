@@ -3,7 +3,7 @@
 
 ghost use Rattle.std.specs.Prelude.{◌≡◌, cond, ◌<◌, ◌≤◌, min};
 ghost use Rattle.rounding.specs.Decimals as meant;
-ghost use Rattle.rounding.specs.Decimals.{bound_text, named_text, signed, text_of, float_text, tenths_text, right_in};
+ghost use Rattle.rounding.specs.Decimals.{bound_text, signed, text_of, float_text, tenths_text, right_in};
 ghost use Rattle.decimal.specs.Page.{added, hex_text};
 
 use crate::Page;
@@ -90,26 +90,15 @@ impl<'a> Page<'a> {
         }
     }
 
-    fn named(&mut self, nan: bool, below: bool, least: usize)
-        ensures { self.new ≡ added self.old (right_in least (named_text nan below)) }
-    {
-        if nan {
-            self.right(b"NaN", least);
-        } else if below {
-            self.right(b"-inf", least);
-        } else {
-            self.right(b"inf", least);
-        }
-    }
-
     // What is to be shown of a float, right in the `least` columns.
     fn show(&mut self, s: Shown, width: usize, least: usize)
         requires { least ≤ width }
         ensures { self.new ≡ added self.old (right_in least (text_of width s)) }
     {
         match s {
-            Shown::Nan => self.named(true, false, least),
-            Shown::Infinity { below } => self.named(false, below, least),
+            Shown::Nan => self.right(b"NaN", least),
+            Shown::Infinity { below: true } => self.right(b"-inf", least),
+            Shown::Infinity { below: false } => self.right(b"inf", least),
             Shown::Bound { below } => self.bound(below, width),
             Shown::Number {
                 below,

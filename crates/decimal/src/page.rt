@@ -1,7 +1,7 @@
 // A page of text: lent bytes, and how many of them are written. What does not fit is dropped.
 #![tactic(auto, using(crate::proofs::PageLaws::pages))]
 
-ghost use Rattle.std.specs.Prelude.{◌≡◌, [], ◌∷◌, length, replicate};
+ghost use Rattle.std.specs.Prelude.{◌≡◌, [], ◌∷◌, replicate};
 ghost use Rattle.rounding.specs.Decimals.{right_in};
 ghost use Rattle.decimal.specs.Page.{added, blank, shortened};
 
@@ -14,19 +14,19 @@ pub struct Page<'a> {
 }
 
 impl<'a> Model for Page<'a> {
-    ghost use Rattle.std.specs.Prelude.{◌-◌, ◌≤◌, length, take};
+    ghost use Rattle.std.specs.Prelude.{◌≤◌, length, take, drop};
     ghost use Rattle.decimal.specs.Page.{Written};
 
     ghost Value = { Written };
 
-    ghost view = { λ p. record { text = take p.end p.bytes.now; room = length p.bytes.now - p.end } };
+    ghost view = { λ p. record { text = take p.end p.bytes.now; rest = drop p.end p.bytes.now } };
 
     ghost invariant = { λ p. p.end ≤ length p.bytes.now };
 }
 
 impl<'a> Page<'a> {
     pub fn new(bytes: &'a mut [u8]) -> Page<'a>
-        ensures { result ≡ blank (length bytes.old) }
+        ensures { result ≡ blank bytes.old }
     {
         Page { bytes, end: 0 }
     }

@@ -3,7 +3,7 @@ ghost use Rattle.decimal.specs.Page.{Extends};
 
 use decimal::Page;
 use job::layout;
-use view::View;
+use view::{Layer, View};
 
 // A number of rows in words, for one and for another number.
 fn counted(n: u32, one: &[u8], more: &[u8], page: &mut Page)
@@ -17,14 +17,14 @@ fn counted(n: u32, one: &[u8], more: &[u8], page: &mut Page)
 }
 
 // One layer: its mark at height y, its name at height foot, how many rows.
-fn layer(view: View, l: u32, y: u32, foot: u32, page: &mut Page)
+fn row(view: View, layer: Layer, y: u32, foot: u32, page: &mut Page)
     ensures { Extends page.old page.new }
 {
-    curve::mark(l, 6700, y, false, page);
+    curve::mark(layer, 6700, y, false, page);
     page.filled(b"<text x=\"692\" y=\"@At0\">", &[foot]);
-    names::layer(l, page);
+    names::layer(layer, page);
     counted(
-        curve::count_of_layer(view, l),
+        curve::count_of_layer(view, layer.into()),
         b", 1 row</text>\n",
         b", @Aw0 rows</text>\n",
         page,
@@ -37,9 +37,13 @@ fn layers(view: View, page: &mut Page)
     page.text(
         b"<g stroke-width=\"2.2\"><path d=\"M656 146h28\" stroke=\"#c04a00\"/><path d=\"M656 168h28\" stroke=\"#00805a\"/><path d=\"M656 190h28\" stroke=\"#0060a8\"/></g>\n",
     );
-    layer(view, 1, 1460, 1510, page);
-    layer(view, 2, 1680, 1730, page);
-    layer(view, 3, 1900, 1950, page);
+    for (layer, y, foot) in [
+        (Layer::E, 1460, 1510),
+        (Layer::F1, 1680, 1730),
+        (Layer::F2, 1900, 1950),
+    ] {
+        row(view, layer, y, foot, page);
+    }
 }
 
 // The jump at a cusp, and the hollow marks of the rows there.
@@ -49,9 +53,9 @@ fn cusps(page: &mut Page)
     page.text(
         b"<path d=\"M656 212h28\" stroke=\"#000\" stroke-width=\"1.2\" stroke-dasharray=\"5 4\"/><text x=\"692\" y=\"217\">jump at a cusp</text>\n",
     );
-    curve::mark(1, 6590, 2340, true, page);
-    curve::mark(2, 6700, 2340, true, page);
-    curve::mark(3, 6810, 2340, true, page);
+    for (layer, x) in [(Layer::E, 6590), (Layer::F1, 6700), (Layer::F2, 6810)] {
+        curve::mark(layer, x, 2340, true, page);
+    }
     page.text(b"<text x=\"692\" y=\"239\">made at a cusp</text>\n");
 }
 

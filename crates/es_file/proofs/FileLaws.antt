@@ -2,9 +2,8 @@
 use mathlib.Core.Path.{◌≡◌, refl, sym, ◌∙◌}
 use mathlib.Core.Bool.{Bool, true, false, cond, ◌&&◌}
 use mathlib.Core.List.{List, [], ◌∷◌, ◌++◌}
-use Prim.Native.Nat.{ℕ, zero, suc, ◌+◌, ◌*◌, ◌<◌, ◌≤◌}
+use Prim.Native.Nat.{ℕ, zero, suc, ◌+◌, ◌*◌, ◌<◌}
 use native.Mathlib.Omega.{arith}
-use native.Mathlib.Numerals.{add-one}
 use lib.Dec.{eqb, leb}
 use lib.ListN.{length, get_or}
 use lib.Ieee.{Float, nan, le}
@@ -18,12 +17,12 @@ use Rattle.limits.specs.Limits.{broken, outcome_of, freq_within, amind_within, e
 use Rattle.limits.proofs.ChainLaws.{held}
 use Rattle.limits.proofs.LimitsLaws.{numbered}
 use Rattle.words.proofs.ListLaws.{get_d_tab}
-use Rattle.esmod.proofs.Accepted.{point_counted, accepted, accepted_is, point_is}
+use Rattle.esmod.proofs.Accepted.{accepted, accepted_is, point_is}
 use Rattle.esmod.specs.declared.EsModes.{EsModes}
 use Rattle.esmod.specs.Esmod.{middle_of, point_of, no_hops, hops_of, limits_of, answer_of, esmod_of}
 use Rattle.esmod.specs.Esmod as esmod
 use Rattle.job.specs.Parts.{point_numbers, number_at, numbers_at}
-use Rattle.es_file.specs.File.{es_bytes, of_file, km_of, fs_of, hs_of, chosen_of, governing_fs, governing_hs, modes_of, number_of, point_tests, points_tests, last_tests}
+use Rattle.es_file.specs.File.{es_bytes, of_file, km_of, fs_of, hs_of, chosen_of, governing_fs, governing_hs, modes_of, number_of, point_tests, points_tests}
 
 -- no test has the number 0
 numbered_append : (xs ys : List (ℕ × Bool)) → numbered xs ≡ true → numbered ys ≡ true → numbered (xs ++ ys) ≡ true

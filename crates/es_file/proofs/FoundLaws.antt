@@ -1,5 +1,5 @@
 -- For `found`: a chain of `check` with `?` over the words of a file, and over its points. Assumes nothing.
-use mathlib.Core.Path.{◌≡◌, refl, sym, ap, ◌∙◌}
+use mathlib.Core.Path.{◌≡◌, refl, sym, ◌∙◌}
 use mathlib.Core.Bool.{Bool, true, false}
 use mathlib.Core.List.{List, [], ◌∷◌, ◌++◌}
 use Prim.Native.Nat.{ℕ, zero, suc, ◌+◌, ◌-◌, ◌<◌}
@@ -50,8 +50,6 @@ point_found file i n m e l k z h =
     let f : broken (points_tests file (suc i)) ≡ suc e = more file i z ∙ sym h ∙ omega arith in
     let g : suc i + (n - suc i) ≡ n = omega (arith, l, k) in
     omega (arith, rw g at (first file (suc i) (n - suc i) e f))
-
-pub ruleset points = (no_points, point_holds, point_found)
 
 -- what comes behind the points
 pub then_last : (file : List ℕ) (n : ℕ) → 0 ≡ broken (points_tests file n) → broken (points_tests file n ++ last_tests file) ≡ broken (last_tests file)

@@ -10,7 +10,7 @@ use esmod::{EsJob, EsModes};
 use job::layout;
 use limits::{Range, Refusal};
 use std::array;
-use view::word;
+use view::{number, word};
 
 // Where the parts stand, in words.
 pub const KM: usize = 0;
@@ -30,13 +30,6 @@ pub const FREQ: usize = AMIND + 1;
 pub const FSDEAD: usize = FREQ + 1;
 
 pub const BYTES: usize = 4 * (FSDEAD + 1);
-
-// Word i as a float; past the end 0.
-fn number(file: &[u8], i: usize) -> f32
-    ensures { result ≡ number_at file.now i }
-{
-    words::float(word(file, i))
-}
 
 // Each point's three fs.
 fn fs(file: &[u8]) -> [[f32; 3]; 5]
@@ -116,14 +109,10 @@ fn in_point(file: &[u8], i: usize) -> Result<(), usize>
 }
 
 // In the first km points, at most 5.
-#[tactic(auto, using(crate::proofs::FoundLaws::points))]
 fn in_points(file: &[u8], km: usize) -> Result<(), usize>
     ensures { found_by result ≡ broken (points_tests file.now (min km points)) }
 {
-    for i in 0..km.min(layout::POINTS) {
-        in_point(file, i)?;
-    }
-    Ok(())
+    (0..km.min(layout::POINTS)).try_for_each(|i| in_point(file, i))
 }
 
 #[tactic(auto, using(crate::proofs::FoundLaws::places), unfolding(crate::specs::File::last_tests))]

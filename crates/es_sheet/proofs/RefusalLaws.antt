@@ -1,7 +1,5 @@
 -- For `sentence`: what is said of every limit but three. Assumes nothing.
 use mathlib.Core.Path.{◌≡◌, refl}
-use mathlib.Core.List.{List}
-use Prim.Native.Nat.{ℕ}
 use Rattle.limits.specs.declared.Refusal.{Refusal}
 use Rattle.limits.specs.declared.Refusal.TheVariants.{Job, Answer, K, Nang, Freq, Amind, Ghop, Fi, Table, Ifob, Slots, Count, Layer, Es}
 use Rattle.limits.specs.Limits.{number_of}

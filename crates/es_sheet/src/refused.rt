@@ -27,25 +27,21 @@ fn sentence(broken: Refusal, page: &mut Page)
 fn single(w: u32, i: usize, page: &mut Page)
     ensures { page.new ≡ added page.old (single_text w i) }
 {
-    if i == es_file::GCD {
-        page.filled(
+    match i {
+        es_file::GCD => page.filled(
             b"  found: gcd @A3l (@Ax0), which has to be 0.001 to 3.2 radians\n",
             &[w],
-        );
-    } else if i == es_file::GCDKM {
-        page.filled(
+        ),
+        es_file::GCDKM => page.filled(
             b"  found: gcdkm @A3l (@Ax0), which has to be 0 to 20100 km\n",
             &[w],
-        );
-    } else if i == es_file::AMIND {
-        page.filled(b"  found: amind @A3l (@Ax0)\n", &[w]);
-    } else if i == es_file::FREQ {
-        page.filled(b"  found: freq @A3l (@Ax0)\n", &[w]);
-    } else {
-        page.filled(
+        ),
+        es_file::AMIND => page.filled(b"  found: amind @A3l (@Ax0)\n", &[w]),
+        es_file::FREQ => page.filled(b"  found: freq @A3l (@Ax0)\n", &[w]),
+        _ => page.filled(
             b"  found: fsdead @A3l (@Ax0), which has to be 0 to 100 MHz\n",
             &[w],
-        );
+        ),
     }
 }
 
@@ -53,24 +49,25 @@ fn single(w: u32, i: usize, page: &mut Page)
 fn word_line(w: u32, i: usize, page: &mut Page)
     ensures { page.new ≡ added page.old (word_text w i) }
 {
-    if i == es_file::KM {
-        page.filled(b"  found: km @Aw0, which has to be 1 to 5\n", &[w]);
-    } else if i < es_file::HS {
-        let fs = i - es_file::FS;
-        let which = (fs % layout::POINT_NUMBERS + 1) as u32;
-        let point = (fs / layout::POINT_NUMBERS) as u32;
-        page.filled(
-            b"  found: fs @Aw0, point @Bw0: @C3l (@Cx0), which has to be 0 to 100 MHz\n",
-            &[which, point, w],
-        );
-    } else if i < es_file::GCD {
-        let point = (i - es_file::HS) as u32;
-        page.filled(
-            b"  found: hs, point @Aw0: @B3l (@Bx0), which has to be 80 to 200 km\n",
-            &[point, w],
-        );
-    } else {
-        single(w, i, page);
+    match i {
+        es_file::KM => page.filled(b"  found: km @Aw0, which has to be 1 to 5\n", &[w]),
+        es_file::FS..es_file::HS => {
+            let fs = i - es_file::FS;
+            let which = (fs % layout::POINT_NUMBERS + 1) as u32;
+            let point = (fs / layout::POINT_NUMBERS) as u32;
+            page.filled(
+                b"  found: fs @Aw0, point @Bw0: @C3l (@Cx0), which has to be 0 to 100 MHz\n",
+                &[which, point, w],
+            );
+        }
+        es_file::HS..es_file::GCD => {
+            let point = (i - es_file::HS) as u32;
+            page.filled(
+                b"  found: hs, point @Aw0: @B3l (@Bx0), which has to be 80 to 200 km\n",
+                &[point, w],
+            );
+        }
+        _ => single(w, i, page),
     }
 }
 

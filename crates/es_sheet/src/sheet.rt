@@ -45,6 +45,7 @@ fn head(file: &[u8], page: &mut Page)
     );
 }
 
+// An empty slot has -1 hops.
 fn empty(h: EsHop) -> bool
     ensures { result ≡ is_empty h }
 {

@@ -33,7 +33,7 @@ pub struct EsHop {
     pub timed: f32,
 }
 
-// The refusal's number, 0 where there is none, and the slots; both are empty where it is refused.
+// What C is answered, where there is no Result: the refusal's number, 0 where there is none, and the slots; both are empty where it is refused.
 #[repr(C)]
 #[derive(Drop)]
 pub struct EsModes {
@@ -130,13 +130,13 @@ impl EsJob {
         ensures value { result ≡ point_of self.now.fs (min self.now.km 5) }
         ensures upper_bound { result < 5 }
     {
-        let mut k = 0;
-        for is in 0..self.km.min(5) {
+        (0..self.km.min(5)).fold(0, |k, is| {
             if self.fs[k][1] - self.fs[is][1] > 0.0 {
-                k = is;
+                is
+            } else {
+                k
             }
-        }
-        k
+        })
     }
 
     // The limits, in their order.

@@ -6,4 +6,4 @@ pub mod StraddleLaws
 pub mod DemandLaws
 pub mod FitLaws
 pub mod LayerLaws
-mod Checks
+pub mod Checks

@@ -1,13 +1,15 @@
 -- The hop search (modes.rs lines 911 to 1040; document 01, "fdist") as steps from state to state, a pair a step. Slots count from 0.
-use Rattle.std.specs.Prelude.{ℕ, zero, suc, ◌+◌, Bool, true, false, cond, List, [], ◌∷◌, Option, Some, None, leb, get_or, set, replicate, Float}
+use Rattle.std.specs.Prelude.{ℕ, zero, suc, ◌+◌, Bool, true, false, cond, List, [], ◌∷◌, Option, Some, None, Result, Ok, Err, leb, get_or, set, replicate, Float}
 use Rattle.std.specs.Float.{nan}
 use Rattle.std.specs.Float.Ieee.{neg, le}
 use Rattle.arith.specs.Floats.{◌⊗◌, RZ, abs_of}
 use Rattle.arith.specs.Numbers.{0·0, 1·0}
 use Rattle.arith.specs.Run.{Next, more, done, run}
-use Rattle.limits.specs.Limits.{refusal_freq, freq_within, refusal_amind, amind_within, refusal_ghop, ghop_within, broken}
+use Rattle.limits.specs.Limits.{refusal_freq, freq_within, refusal_amind, amind_within, refusal_ghop, ghop_within, broken, number_of}
+use Rattle.limits.specs.declared.Refusal.{Refusal}
 use Rattle.findf.specs.declared.Reflectrix.{Reflectrix}
 use Rattle.fdist.specs.declared.HopModes.{HopModes}
+use Rattle.fdist.specs.declared.Found.{Found}
 use Rattle.fdist.specs.declared.Searched.{Searched}
 use Rattle.fdist.specs.declared.pairs.Pair.{Pair}
 use Rattle.fdist.specs.declared.rays.Ray.{Ray}
@@ -129,6 +131,11 @@ limits_of ghop amind freq = (refusal_freq, freq_within freq) ∷ (refusal_amind,
 -- "a refusal changes nothing lent or passed"
 abbrev pub refused_of : HopModes → ℕ → Searched
 refused_of m n = record { refusal = n; pairs = 0; rays = 0; m = m }
+
+-- what a call returns, with the slots that are to hold it: a refusal leaves them
+abbrev pub searched_by : Result Found Refusal → HopModes → Searched
+searched_by (Ok f) m = found_by f.pairs f.rays f.m
+searched_by (Err refusal) m = refused_of m (number_of refusal)
 
 -- the answer, by the number of the first limit broken
 abbrev pub unless_broken : ℕ → HopModes → Searched → Searched

@@ -3,7 +3,7 @@
 
 ghost use Rattle.std.specs.Prelude.{◌≡◌};
 ghost use Rattle.limits.specs.Limits.{broken, code_of};
-ghost use Rattle.fdist.specs.Fdist.{limits_of, refused_of, fdist_of};
+ghost use Rattle.fdist.specs.Fdist.{limits_of, searched_by, fdist_of};
 
 use findf::Reflectrix;
 use limits::Refusal;
@@ -14,7 +14,10 @@ mod search;
 
 pub use pairs::gives_spot;
 
-// Up to six rays of one hop length.
+// The layer of an empty slot.
+pub const NO_LAYER: u32 = 5;
+
+// Up to six rays of one hop length, as arrays: C has them so.
 #[repr(C)]
 #[derive(Clone, Copy)]
 pub struct HopModes {
@@ -26,7 +29,15 @@ pub struct HopModes {
     pub afmod: [f32; 6],
 }
 
-// The slots; beside them 0 or the number of the limit that refuses, the pairs tried, and the rays: the slots that were accepted.
+// The pairs tried; the rays, that is the slots that were accepted; the slots.
+#[derive(Clone, Copy)]
+pub struct Found {
+    pub pairs: u32,
+    pub rays: u32,
+    pub m: HopModes,
+}
+
+// An outcome as C gets it: the refusal's number, 0 where there is none, and slots that a refusal leaves as they came.
 #[repr(C)]
 #[derive(Drop)]
 pub struct Searched {
@@ -46,36 +57,21 @@ fn numbers_of(ghop: f32, amind: f32, freq: f32) -> Result<(), Refusal>
     limits::check(limits::GHOP.holds(ghop), Refusal::Ghop)
 }
 
-// Refused: the slots as they were.
-fn refused(kept: HopModes, refusal: u32) -> Searched
-    ensures { result ≡ refused_of kept refusal }
-{
-    Searched {
-        refusal,
-        pairs: 0,
-        rays: 0,
-        m: kept,
-    }
-}
-
 // The rays of the hop length ghop, an angle at the Earth's centre in radians, over a lent reflectrix.
-pub fn fdist_over(m: HopModes, rfx: &Reflectrix, ghop: f32, amind: f32, freq: f32) -> Searched
-    ensures { result ≡ fdist_of m rfx.now ghop amind freq }
+pub fn fdist_over(rfx: &Reflectrix, ghop: f32, amind: f32, freq: f32) -> Result<Found, Refusal>
+    ensures { (m : HopModes) → searched_by result m ≡ fdist_of m rfx.now ghop amind freq }
 {
-    let numbers = numbers_of(ghop, amind, freq);
-    let Ok(()) = numbers else {
-        return refused(m, limits::code(numbers));
-    };
+    numbers_of(ghop, amind, freq)?;
     let dhopkm = ghop * arith::RZ;
     if dhopkm >= rfx.dmaxkm {
-        return search::none();
+        return Ok(search::none());
     }
-    search::search(rfx, dhopkm, amind, freq)
+    Ok(search::search(rfx, dhopkm, amind, freq))
 }
 
 // By value: the same over its own copy of the reflectrix.
-pub fn fdist(m: HopModes, rfx: Reflectrix, ghop: f32, amind: f32, freq: f32) -> Searched
-    ensures { result ≡ fdist_of m rfx ghop amind freq }
+pub fn fdist(rfx: Reflectrix, ghop: f32, amind: f32, freq: f32) -> Result<Found, Refusal>
+    ensures { (m : HopModes) → searched_by result m ≡ fdist_of m rfx ghop amind freq }
 {
-    fdist_over(m, &rfx, ghop, amind, freq)
+    fdist_over(&rfx, ghop, amind, freq)
 }

@@ -3,7 +3,7 @@ ghost use Rattle.std.specs.Prelude.{◌≡◌, ◌<◌};
 ghost use Rattle.fdist.specs.Pairs.{between_of, rising_of, equal_of, falling_of, pair_of, next_of, is_spot};
 ghost use Rattle.fdist.specs.Requires.{Within};
 
-// What the rule gives of rows i and i + 1: nothing, a row as it is, or a spot between with its two distances dth and dth2.
+// What the rule gives of rows i and i + 1: nothing, a row as it is, or a spot between with its two distances dth and dth2. No Option of two: document 01 names these three.
 #[derive(Clone, Copy)]
 pub(crate) enum Pair {
     Nothing,

@@ -4,7 +4,7 @@ ghost use Rattle.fdist.specs.Fdist.{rows_of, empty_of, found_by, none_of, run_of
 
 use crate::pairs::{next_pair, try_pair};
 use crate::rays::ray_given;
-use crate::{HopModes, Searched};
+use crate::{Found, HopModes, NO_LAYER};
 use findf::Reflectrix;
 
 // Six empty slots.
@@ -16,17 +16,16 @@ fn empty() -> HopModes
         hpmod: [-1.0; 6],
         htmod: [0.0; 6],
         fvmod: [0.0; 6],
-        itmod: [5; 6],
+        itmod: [NO_LAYER; 6],
         afmod: [0.0; 6],
     }
 }
 
-fn found(pairs: u32, rays: usize, m: HopModes) -> Searched
+fn found(pairs: u32, rays: usize, m: HopModes) -> Found
     requires { rays ≤ 6 }
-    ensures { result ≡ found_by pairs rays m }
+    ensures { found_by result.pairs result.rays result.m ≡ found_by pairs rays m }
 {
-    Searched {
-        refusal: 0,
+    Found {
         pairs,
         rays: rays as u32,
         m,
@@ -34,15 +33,15 @@ fn found(pairs: u32, rays: usize, m: HopModes) -> Searched
 }
 
 // No pair tried.
-pub(crate) fn none() -> Searched
-    ensures { result ≡ none_of }
+pub(crate) fn none() -> Found
+    ensures { found_by result.pairs result.rays result.m ≡ none_of }
 {
     found(0, 0, empty())
 }
 
 // The pairs upward, a pair a turn, and each ray into the open slot.
-pub(crate) fn search(rfx: &Reflectrix, d: f32, amind: f32, freq: f32) -> Searched
-    ensures { result ≡ run_of (rows_of rfx.now) d amind freq }
+pub(crate) fn search(rfx: &Reflectrix, d: f32, amind: f32, freq: f32) -> Found
+    ensures { found_by result.pairs result.rays result.m ≡ run_of (rows_of rfx.now) d amind freq }
 {
     let mut m = empty();
     let mut at: usize = 0;

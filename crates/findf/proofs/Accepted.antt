@@ -1,8 +1,13 @@
 -- For `findf_into`: what the outcome of the checks shows. Assumes nothing.
-use Rattle.std.proofs.Common.{◌≡◌, ℕ, zero, suc, ◌≤◌, true, refl, leb-true}
+use Rattle.std.proofs.Common.{◌≡◌, ◌∙◌, ap, ℕ, zero, suc, ◌≤◌, true, refl, leb-true, Err}
+use Rattle.std.specs.Prelude.{⊤}
 use lib.Ieee.{Float}
-use Rattle.limits.specs.Limits.{broken, freq_within}
+use Rattle.limits.specs.Limits.{broken, number_of, freq_within}
+use Rattle.limits.proofs.ChainLaws.{not_accepted}
 use Rattle.limits.proofs.LimitsLaws.{unbroken}
+use Rattle.limits.specs.declared.Refusal.{Refusal}
+use Rattle.findf.proofs.FindfLaws.{findf_refusal}
+use Rattle.findf.specs.declared.Walked.{Walked}
 use Rattle.findf.specs.Requires.{Entries, started_of}
 use Rattle.findf.specs.Inputs.{Job, second_of, third_of}
 use Rattle.findf.specs.Findf.{limits_of, refused_of, findf_by, findf_of}
@@ -18,6 +23,12 @@ module _ (r : Reflectrix) (j : Job) where
   pub refuses : {q : ℕ} → q ≡ broken (limits_of j) → (broken (limits_of j) ≡ 0 → ⊥) → refused_of q r ≡ findf_of r j
   unfolding findf_of
   refuses e h = rw e (refuses_by (broken (limits_of j)) h)
+
+  -- a refusal leaves the reflectrix, whatever came of a copy
+  pub kept : (left : Reflectrix) (e : Refusal) → refused_of (number_of e) left ≡ findf_of r j → refused_of (number_of e) r ≡ findf_of r j
+  kept left e q =
+      let n : number_of e ≡ broken (limits_of j) = ap (λ (a : Walked). a.refusal) q ∙ findf_refusal r j in
+      refuses n (λ z. not_accepted {A = ⊤} {a = Err e} refl refl (n ∙ z))
 
   pub walks : {second third : Float} → broken (limits_of j) ≡ 0 → (second ≡ second_of j) × (third ≡ third_of j)
       → started_of r j.nang j.freq j.amind second third j.tables ≡ findf_of r j

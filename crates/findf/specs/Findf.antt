@@ -17,6 +17,7 @@ use Rattle.findf.specs.declared.walk.Label.{Label}
 use Rattle.findf.specs.declared.walk.Label.TheVariants.{Search, NextLayer, Fill, NextCusp, Done}
 use Rattle.findf.specs.declared.walk.Fill as F
 use Rattle.findf.specs.declared.Reflectrix.{Reflectrix}
+use Rattle.findf.specs.declared.Reflected.{Reflected}
 use Rattle.findf.specs.declared.Walked.{Walked}
 use Rattle.limits.specs.declared.Refusal.{Refusal}
 
@@ -142,6 +143,11 @@ refused_of refusal r = record { refusal = refusal; looks = 0; rfx = r }
 abbrev pub walked_with : Result ℕ Refusal → Reflectrix → Walked
 walked_with (Ok looks) rfx = answered looks rfx
 walked_with (Err refusal) rfx = refused_of (number_of refusal) rfx
+
+-- what a call by value returns, with the reflectrix that is to hold it: a refusal leaves it
+abbrev pub walked_by : Result Reflected Refusal → Reflectrix → Walked
+walked_by (Ok a) rfx = answered a.looks a.rfx
+walked_by (Err refusal) rfx = refused_of (number_of refusal) rfx
 
 -- findf, by the number of the first limit broken
 unfoldable pub findf_by : ℕ → Reflectrix → Job → Walked

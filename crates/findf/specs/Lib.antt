@@ -2,6 +2,7 @@
 pub mod Look
 pub mod Walk
 pub mod Inputs
+pub mod Kinds
 pub mod Rows
 pub mod Checks
 pub mod Findf

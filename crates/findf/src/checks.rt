@@ -23,6 +23,7 @@ fn rows_within(t: &Tables) -> bool
     ensures { result ≡ rows_within t.now.fvert t.now.hprim t.now.htrue t.now.afac 30 }
 {
     let mut ok = true;
+    // Not `all`, which ends at the first that fails: here the loop has no branch.
     for i in 0..30 {
         ok &= row_within(t.fvert[i], t.hprim[i], t.htrue[i], t.afac[i]);
     }

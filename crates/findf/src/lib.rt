@@ -6,7 +6,8 @@ ghost use Rattle.std.specs.Prelude.{◌≡◌, ◌≤◌, true};
 ghost use Rattle.limits.specs.Limits.{freq_within};
 ghost use Rattle.findf.specs.Requires.{Entries, started_of};
 ghost use Rattle.findf.specs.Inputs.{job_by};
-ghost use Rattle.findf.specs.Findf.{answered, walked_with, jfhz_of, unless_of, findf_of};
+ghost use Rattle.findf.specs.Kinds.{number_of, Decodes};
+ghost use Rattle.findf.specs.Findf.{answered, walked_with, walked_by, jfhz_of, unless_of, findf_of};
 
 mod checks;
 mod correction;
@@ -18,15 +19,44 @@ mod walk;
 use limits::Refusal;
 use walk::Setup;
 
-// The kinds of rows: read off a row of the tables, between two of them, made at a cusp, made after it. A row that was not written in the last call has 0.
-pub const KIND_EXACT: u32 = 1;
+// How a row was made: read off a row of the tables, between two of them, at a cusp, after it. As u32 it is the row's number in the column `kind`, where a row that was not written in the last call has 0.
+#[derive(Clone, Copy, Debug, PartialEq, Eq)]
+pub enum RowKind {
+    Exact = 1,
+    Interp,
+    Cusp,
+    NextCusp,
+}
 
-pub const KIND_INTERP: u32 = 2;
+impl From<RowKind> for u32 {
+    ghost from_gives = { λ kind n. n ≡ number_of kind };
 
-pub const KIND_CUSP: u32 = 3;
+    fn from(kind: RowKind) -> u32 {
+        kind as u32
+    }
+}
 
-pub const KIND_NEXT_CUSP: u32 = 4;
+// A number that no kind has.
+#[derive(Clone, Copy, Debug, PartialEq, Eq)]
+pub struct NoRowKind(pub u32);
 
+impl TryFrom<u32> for RowKind {
+    type Error = NoRowKind;
+
+    ghost try_from_gives = { Decodes };
+
+    fn try_from(number: u32) -> Result<Self, NoRowKind> {
+        match number {
+            1 => Ok(RowKind::Exact),
+            2 => Ok(RowKind::Interp),
+            3 => Ok(RowKind::Cusp),
+            4 => Ok(RowKind::NextCusp),
+            _ => Err(NoRowKind(number)),
+        }
+    }
+}
+
+// The rows and figures of a walk. C has the same columns, and the answer's bytes too: so they are arrays, and an imode or a kind is a number.
 #[repr(C)]
 #[derive(Clone, Copy)]
 pub struct Reflectrix {
@@ -50,7 +80,7 @@ pub struct Reflectrix {
     pub rows_this_call: usize,
 }
 
-// The tables of one point: the vertical frequency, virtual height, true height and absorption factor of 30 rows, and the entries of 30 rows at each of 40 angles.
+// The tables of one point: the vertical frequency, virtual height, true height and absorption factor of 30 rows, and the entries of 30 rows at each of 40 angles. Arrays side by side, as document 01 and C have them.
 #[repr(C)]
 #[derive(Clone, Copy)]
 pub struct Tables {
@@ -61,7 +91,14 @@ pub struct Tables {
     pub ifob: [i32; 1200],
 }
 
-// The refusal's number, 0 where there is none; the turns of the inner loop; the reflectrix, as it came where it is refused. C gets it as it is, so it is no Result.
+// The turns of the inner loop, and the reflectrix as the walk leaves it.
+#[derive(Clone, Copy)]
+pub struct Reflected {
+    pub looks: u32,
+    pub rfx: Reflectrix,
+}
+
+// An outcome as C gets it: the refusal's number, 0 where there is none, and a reflectrix that a refusal leaves as it came.
 #[repr(C)]
 #[derive(Drop)]
 pub struct Walked {
@@ -120,6 +157,7 @@ fn started(
 }
 
 // A walk of one frequency, written into the reflectrix; its looks. A refusal leaves the reflectrix as it came.
+// The numbers come one by one, and fi with all its points, as in document 01 and at each C entry: a struct of them would be made for one call. What the walk reads of them is one value, `Setup`.
 pub fn findf_into(
     rfx: &mut Reflectrix,
     k: usize,
@@ -144,20 +182,10 @@ pub fn findf(
     amind: f32,
     fi: [[f32; 3]; 5],
     tables: Tables,
-) -> Walked
-    ensures { result ≡ findf_of rfx (job_by k nang freq amind fi tables) }
+) -> Result<Reflected, Refusal>
+    ensures { walked_by result rfx ≡ findf_of rfx (job_by k nang freq amind fi tables) }
 {
     let mut left = rfx;
-    match findf_into(&mut left, k, nang, freq, amind, fi, &tables) {
-        Ok(looks) => Walked {
-            refusal: 0,
-            looks,
-            rfx: left,
-        },
-        Err(refusal) => Walked {
-            refusal: refusal.into(),
-            looks: 0,
-            rfx: left,
-        },
-    }
+    let looks = findf_into(&mut left, k, nang, freq, amind, fi, &tables)?;
+    Ok(Reflected { looks, rfx: left })
 }

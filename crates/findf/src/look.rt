@@ -43,6 +43,7 @@ pub(crate) fn looks(
 {
     let mut at = ih;
     let mut n = looks;
+    // Each turn is a look, which stays at its row or moves on: there is no range.
     loop {
         n += 1;
         if entry(ifob, column + ilow - 1) >= jfhz {

@@ -6,7 +6,7 @@ ghost use Rattle.findf.specs.Rows.{gap_of, slope_of, raw_at, between, raw_betwee
 ghost use Rattle.findf.specs.Requires.{Entries, Safe};
 
 use super::walk::{ANGLES, Fill, Label, Setup, Walk};
-use super::{Tables, look};
+use super::{RowKind, Tables, look};
 
 #[derive(Clone, Copy)]
 pub(crate) struct Raw {
@@ -17,7 +17,7 @@ pub(crate) struct Raw {
     pub af: f32,
 }
 
-// A fill: its row before the correction, the row's layer and kind, and how the walk goes on, with the angles given back.
+// A fill: its row before the correction, the row's layer and kind, and how the walk goes on, with the angles given back. The kind is its number, a constant in each arm of `filling_of`: kept as a RowKind it slows the walk by some 5 %.
 #[derive(Drop)]
 pub(crate) struct Filling {
     pub raw: Raw,
@@ -112,7 +112,7 @@ pub(crate) fn filling_of(
         Fill::Exact => Filling {
             raw: raw_at(tables, ih - 1, ANGLES[ia - 1]),
             mode: il as u32,
-            kind: super::KIND_EXACT,
+            kind: RowKind::Exact.into(),
             back: 0,
             after: Label::Search,
         },
@@ -126,7 +126,7 @@ pub(crate) fn filling_of(
             Filling {
                 raw: raw_between(tables, ih - 1, ANGLES[ia - 1], s),
                 mode: il as u32,
-                kind: super::KIND_INTERP,
+                kind: RowKind::Interp.into(),
                 back: 0,
                 after: Label::Search,
             }
@@ -134,14 +134,14 @@ pub(crate) fn filling_of(
         Fill::Cusp => Filling {
             raw: raw_at(tables, w.ihigh - 1, e.delpen[il - 1]),
             mode: il as u32,
-            kind: super::KIND_CUSP,
+            kind: RowKind::Cusp.into(),
             back: 1,
             after: Label::NextCusp,
         },
         Fill::NextCusp360 => Filling {
             raw: raw_at(tables, w.ihigh, delfx[i - 1] + 0.001),
             mode: next_mode(il as u32, e.second),
-            kind: super::KIND_NEXT_CUSP,
+            kind: RowKind::NextCusp.into(),
             back: 0,
             after: Label::NextLayer,
         },

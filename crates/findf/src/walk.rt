@@ -218,6 +218,7 @@ pub(crate) fn walk_rows(rfx: &mut Reflectrix, e: &Setup, tables: &Tables) -> u32
         rows: 0,
         looks: 0,
     };
+    // Each turn is a step by the state's label: there is no index to range over.
     loop {
         match w.label {
             Label::Search => {

@@ -8,7 +8,7 @@ ghost use Rattle.findf_entry.specs.Entry.{left_with};
 
 use findf::{Reflectrix, Tables};
 
-// The refusal's number, 0 where there is none; the turns of the inner loop.
+// The refusal's number, 0 where there is none; the turns of the inner loop. C gets it as it is, so it is no Result.
 #[repr(C)]
 #[derive(Drop)]
 pub struct Outcome {

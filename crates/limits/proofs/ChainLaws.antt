@@ -3,8 +3,6 @@ use mathlib.Core.Path.{◌≡◌, refl, sym, ap, ◌∙◌}
 use mathlib.Core.Bool.{Bool, true, false}
 use mathlib.Core.List.{List, [], ◌∷◌}
 use Prim.Native.Nat.{ℕ}
-use lib.Dec.{eqb}
-use borrow.Author.Tests.{eqb-true, eq-eqb}
 use native.Mathlib.Omega.{arith}
 use Rattle.std.specs.Prelude.{Result, Ok, Err, ⊤}
 use Rattle.limits.specs.declared.Refusal.{Refusal}
@@ -56,14 +54,3 @@ not_accepted {r = r} e k z = numbered r (sym (ap code_of k) ∙ e ∙ z)
 pub held : {E : Type 0} {a : Result ⊤ E} {x : ⊤} (holds : Bool) (said : E) → a ≡ outcome_of holds said → a ≡ Ok x → holds ≡ true
 held true said e k = refl
 held false said e k = absurd (let z : ◌≡◌ {A = ℕ} 0 1 = cc in omega arith)
-
-failed : {E : Type 0} {a : Result ⊤ E} {x : E} (holds : Bool) (said : E) → a ≡ outcome_of holds said → a ≡ Err x → holds ≡ true → ⊥
-failed true said e k h = let z : ◌≡◌ {A = ℕ} 0 1 = cc in omega arith
-failed false said e k h = let z : ◌≡◌ {A = ℕ} 0 1 = cc in omega arith
-
--- a number that is checked to be 0
-pub is_zero : {E : Type 0} {a : Result ⊤ E} {x : ⊤} (n : ℕ) (said : E) → a ≡ outcome_of (eqb n 0) said → a ≡ Ok x → n ≡ 0
-is_zero n said e k = eqb-true n 0 (held (eqb n 0) said e k)
-
-pub not_zero : {E : Type 0} {a : Result ⊤ E} {x : E} (n : ℕ) (said : E) → a ≡ outcome_of (eqb n 0) said → a ≡ Err x → n ≡ 0 → ⊥
-not_zero n said e k h = failed (eqb n 0) said e k (eq-eqb n 0 h)

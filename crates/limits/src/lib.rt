@@ -119,6 +119,7 @@ impl Range {
     }
 }
 
+// A count, and so no Range, which is of floats; likewise nang.
 pub fn k_within(k: usize) -> bool
     ensures { result ≡ k_within k }
 {
@@ -131,7 +132,7 @@ pub fn nang_within(nang: usize) -> bool
     nang <= 40
 }
 
-// Of the point that the job names; its first number may be anything.
+// Of the point that the job names; its first number may be anything. Two numbers, each in a range of its own.
 pub fn fi_within(second: f32, third: f32) -> bool
     ensures { result ≡ fi_within second third }
 {
@@ -151,13 +152,14 @@ pub fn entries_within(ifob: &[i32; 1200]) -> bool
     (0 <= bits) & !above
 }
 
+// Each has one bound, and a Range has two.
 pub fn slots_within(ist: usize, lst: usize) -> bool
     ensures { result ≡ slots_within ist lst }
 {
     (1 <= ist) & (lst <= 7)
 }
 
-// A sum that saturates is above 20 too.
+// A sum, with an upper bound alone. One that saturates is above 20 too.
 pub fn count_within(before: usize, added: usize) -> bool
     ensures { result ≡ count_within before added }
 {
@@ -183,18 +185,14 @@ fn point_within(fs: &[f32; 3], hs: f32) -> bool
 }
 
 // The first km points. Those that are not counted may be anything.
-#[tactic(auto, unfolding(crate::specs::Limits::points_within))]
 fn points_within(fs: &[[f32; 3]; 5], hs: &[f32; 5], km: usize) -> bool
     requires { km ≤ 5 }
     ensures { result ≡ points_within fs.now hs.now km }
 {
-    let mut ok = true;
-    for i in 0..km {
-        ok &= point_within(&fs[i], hs[i]);
-    }
-    ok
+    (0..km).all(|i| point_within(&fs[i], hs[i]))
 }
 
+// Its one caller's struct stands in a crate above; one of these six here would be filled field by field for this call alone.
 #[tactic(auto, unfolding(crate::specs::Limits::es_within))]
 pub fn es_within(
     km: usize,

@@ -4,8 +4,10 @@
 ghost use Rattle.std.specs.Prelude.{◌≡◌};
 ghost use Rattle.decimal.specs.Page.{added};
 ghost use Rattle.names.specs.Names.{plain_of, plains_of, last_of, cut_of, shown_of, width_of, layer_of};
+ghost use Rattle.view.specs.View.{layer_number};
 
 use decimal::Page;
+use view::Layer;
 
 // The most characters, and how many are left where there are more.
 const MOST: usize = 48;
@@ -33,16 +35,13 @@ pub fn plains(s: &[u8], page: &mut Page)
 }
 
 // The last part, after the last `/`.
-#[tactic(auto, using(crate::proofs::NamesLaws::parts))]
 fn last(name: &[u8]) -> &[u8]
     ensures { result.now ≡ last_of name.now }
 {
-    for i in (0..name.len()).rev() {
-        if name[i] == b'/' {
-            return &name[i + 1..];
-        }
+    match name.iter().rposition(|b| *b == b'/') {
+        Some(i) => &name[i + 1..],
+        None => name,
     }
-    name
 }
 
 #[tactic(auto, using(decimal::proofs::PageLaws::pages, crate::proofs::NamesLaws::to_end), unfolding(crate::specs::Names::cut_of))]
@@ -71,13 +70,13 @@ pub fn shown(name: &[u8], page: &mut Page)
     cut(last(name), page);
 }
 
-// A layer's name, 1 E, 2 F1, else F2.
-pub fn layer(n: u32, page: &mut Page)
-    ensures { page.new ≡ added page.old (layer_of n) }
+// A layer's name.
+pub fn layer(layer: Layer, page: &mut Page)
+    ensures { page.new ≡ added page.old (layer_of (layer_number layer)) }
 {
-    match n {
-        1 => page.text(b"E"),
-        2 => page.text(b"F1"),
-        _ => page.text(b"F2"),
+    match layer {
+        Layer::E => page.text(b"E"),
+        Layer::F1 => page.text(b"F1"),
+        Layer::F2 => page.text(b"F2"),
     }
 }

@@ -4,7 +4,7 @@ use mathlib.Core.Bool.{Bool, true, false, ◌&&◌}
 use mathlib.Core.List.{List, [], ◌∷◌, ◌++◌}
 use Prim.Native.Nat.{ℕ, ◌≤◌}
 use native.Mathlib.Omega.{arith}
-use lib.Dec.{leb, eqb}
+use lib.Dec.{leb}
 use lib.ListN.{length}
 use borrow.Author.Tests.{leb-true, le-leb}
 use Rattle.limits.specs.Limits.{broken}
@@ -26,7 +26,7 @@ broken_most m [] e = omega arith
 broken_most m ((n, true) ∷ ls) e = broken_most m ls (both (leb n m) (numbers m ls) e).1
 broken_most m ((n, false) ∷ ls) e = leb-true n m (both (leb n m) (numbers m ls) e).0
 
-pub most_ten : (job : List ℕ) (room : ℕ) → refusal_of job room ≤ 10
+most_ten : (job : List ℕ) (room : ℕ) → refusal_of job room ≤ 10
 most_ten job room = broken_most 10 (length_limits (length job) room ++ limits_of (job_of job)) refl
 
 pub number_status : (job : List ℕ) (room : ℕ) {r : ℕ} → r ≡ refusal_of job room → is_status r ≡ true

@@ -8,7 +8,6 @@ ghost use Rattle.system.specs.Outcome.{refusal_number};
 
 use command::Verb;
 use decimal::Page;
-use limits::Refusal;
 use system::Refused;
 use view::View;
 
@@ -17,9 +16,9 @@ pub fn numbered(job: &[u8], answer: &mut [u8]) -> Result<(), Refused>
     ensures value { refusal_number result ≡ refusal_of job.now (length answer.old) }
     ensures answer_after { answer.new ≡ left_of job.now answer.old }
 {
-    match Refusal::try_from(job::run(job, answer)) {
-        Ok(why) => Err(Refused { why }),
-        Err(_) => Ok(()),
+    match job::answer(job, answer) {
+        Ok(()) => Ok(()),
+        Err(why) => Err(Refused { why }),
     }
 }
 

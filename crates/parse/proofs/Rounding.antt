@@ -12,6 +12,7 @@ use lib.Ieee.Digits.{size-lt, size-le}
 use lib.Ieee.Fits.{core, round_is, nearest-le, down_pos}
 use lib.Ieee.Nearest.{closest, closest_same, nearest-ge}
 use lib.Ieee.Exact.{HasValue, units_val}
+use Rattle.rounding.specs.Decimals.{nearest}
 use Rattle.parse.specs.Nearest.{nearest_of}
 
 -- ---- doubling
@@ -67,6 +68,12 @@ bits_units q k kp lo hi = bits_value (units binary32 false q k) (q * 2 ^ k) (uni
         let v : 2 ^ (24 + k) ≡ 2 ^ 23 * 2 ^ (k + 1) = ap (λ (y : ℕ). 2 ^ y) {x = 24 + k} {y = 23 + (k + 1)} (omega arith) ∙ pow-add 2 23 (k + 1) in
         let d : q * 2 ^ k / 2 ^ (k + 1) ≡ 2 ^ 23 = ap (λ (y : ℕ). y / 2 ^ (k + 1)) (w ∙ v) ∙ shl-shr (2 ^ 23) (k + 1) in
         rw (z, d) (omega arith)
+
+-- ---- the division
+
+-- std's closest whole number to a quotient is the one that `rounding` gives
+pub closest_by : (n p : ℕ) → 0 < p → nearest n p ≡ closest n p
+closest_by n p h = grind arith
 
 -- ---- the nearest f32 to n / d, where n doubled k times has a quotient of 24 digits
 

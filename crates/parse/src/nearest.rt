@@ -1,9 +1,6 @@
 // The f32 nearest to a quotient of whole numbers, by its bits.
 ghost use Rattle.std.specs.Prelude.{◌≡◌, ◌*◌, ◌^◌, ◌<◌, ◌≤◌};
-ghost use Rattle.std.specs.Float.Ieee.Nearest.{closest as meant·closest};
 ghost use Rattle.parse.specs.Nearest.{nearest_of, in_units, in_radians};
-
-use std::cmp::Ordering;
 
 // A number doubled so often.
 struct Doubled {
@@ -36,10 +33,10 @@ fn over(n: u64, d: u64) -> u32
         return 0;
     }
     let Doubled { x, times } = doubled_to(n, d * 0x80_0000);
-    ((149 - times) * 0x80_0000 + closest(x, d)) as u32
+    ((149 - times) * 0x80_0000 + rounding::nearest(x, d)) as u32
 }
 
-// n doubled until it is not below `least`.
+// n doubled until it is not below `least`. A loop, since the number itself grows: there is no index to run over.
 fn doubled_to(n: u64, least: u64) -> Doubled
     requires n_nonzero { 0 < n }
     requires n_bound { n < 2 * least }
@@ -56,20 +53,4 @@ fn doubled_to(n: u64, least: u64) -> Doubled
         times += 1;
     }
     Doubled { x, times }
-}
-
-// n / p to the nearest, ties to even.
-fn closest(n: u64, p: u64) -> u64
-    requires p_nonzero { 0 < p }
-    requires p_bound { p < 2 ^ 23 }
-    requires n_bound { n < 2 ^ 47 }
-    ensures { result ≡ meant·closest n p }
-{
-    let q = n / p;
-    let r = n % p;
-    match (2 * r).cmp(&p) {
-        Ordering::Less => q,
-        Ordering::Equal => q + q % 2,
-        Ordering::Greater => q + 1,
-    }
 }

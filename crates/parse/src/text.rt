@@ -2,7 +2,7 @@
 ghost use Rattle.std.specs.Prelude.{◌≡◌, ◌<◌};
 ghost use Rattle.parse.specs.Number.{point_of, digit_of, behind, step_of, below_of, value_of, number_of};
 
-// The digits read so far, as one number, by how many of them are decimals.
+// The digits read so far, as one number, by how many of them are decimals. Each case is a state of the reading; `Nothing` too, since a digit may follow.
 #[derive(Drop)]
 pub(crate) enum Read {
     Nothing,

@@ -38,7 +38,7 @@ fn ground(view: View, up: u32, page: &mut Page)
     }
 }
 
-// Each mark of an axis from one on; that at 0 is its first.
+// Each mark of an axis from one on; that at 0 is its first. Each crate that draws has its own `each`: a public one would have to require what its closure does, and no public function requires anything.
 fn each<F: Fn(u32, &mut Page)>(from: u32, axis: Axis, page: &mut Page, draw: F)
     requires callable { F.IsAlwaysCallable draw }
     requires extends { (i : _) (p : _) (q : _) → F.post draw i p tt q → Extends p.now q.now }
@@ -49,6 +49,7 @@ fn each<F: Fn(u32, &mut Page)>(from: u32, axis: Axis, page: &mut Page, draw: F)
     }
 }
 
+// The two axes stay apart: each line and number is of one of them.
 fn lines(across: Axis, up: Axis, page: &mut Page)
     ensures { Extends page.old page.new }
 {

@@ -50,13 +50,9 @@ pub fn dotted(view: View, across: u32, page: &mut Page)
     }
 }
 
-// Whether the asked length lies beyond the right edge, and where its line stands.
+// Whether the asked length lies beyond the right edge.
 fn beyond(view: View) -> bool {
     scale::beyond(curve::farthest(view), curve::in_tenths(view.asked()))
-}
-
-fn asked_line(view: View) -> u32 {
-    scale::asked_line(curve::farthest(view), curve::in_tenths(view.asked()))
 }
 
 // The minimum angle, the asked length, and the plot's edges.
@@ -66,7 +62,7 @@ pub fn asked(view: View, up: u32, page: &mut Page)
     let minimum = curve::in_thousandths(view::word(view.job, view::AMIND));
     page.filled(
         b"<path d=\"M64 @At0H640\" stroke=\"#000\" stroke-width=\"1.5\" stroke-dasharray=\"10 3 2 3\"/>\n<path d=\"M@Bt0 123V544\" stroke=\"#000\" stroke-width=\"2\"/>\n<path d=\"M64 126V544H640\" fill=\"none\" stroke=\"#000\" stroke-width=\"1.5\"/>\n",
-        &[scale::ay(minimum, up), asked_line(view)],
+        &[scale::ay(minimum, up), curve::asked_line(view)],
     );
 }
 
@@ -147,7 +143,7 @@ fn asked_label(view: View, page: &mut Page)
         b""
     };
     let l = Label {
-        x: asked_line(view),
+        x: curve::asked_line(view),
         foot: 1200,
         length: view.asked(),
         weight: b" font-weight=\"bold\"",

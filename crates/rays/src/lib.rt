@@ -11,17 +11,10 @@ use view::View;
 mod order;
 
 pub use order::highest;
-use order::{Slot, above, at_rank, leftward, raised};
+use order::{Slot, above, at_rank, leftward, raised, slots};
 
 // How far a ring stands from the line.
 const ASIDE: u32 = 280;
-
-// The line of the asked length.
-fn line(view: View) -> u32
-    ensures { (640 ≤ result) × (result ≤ 6400) }
-{
-    scale::asked_line(curve::farthest(view), curve::in_tenths(view.asked()))
-}
 
 fn ring_x(x: u32, i: usize) -> u32
     requires le_x { 640 ≤ x }
@@ -39,7 +32,7 @@ fn ring_y(view: View, x: u32, up: u32, i: usize) -> u32
 
 // The places of the dot and the ring of rank i, that of the ring's number, and the number.
 fn places(slot: Slot, up: u32, i: usize) -> [u32; 6] {
-    let x = line(slot.view);
+    let x = curve::asked_line(slot.view);
     let y = ring_y(slot.view, x, up, i);
     [
         x,
@@ -92,7 +85,7 @@ fn low(slot: Slot, up: u32, page: &mut Page)
     if !slot.is_low() {
         return;
     }
-    let x = line(slot.view);
+    let x = curve::asked_line(slot.view);
     let y = scale::ay(slot.angle(), up);
     page.filled(
         b"<circle cx=\"@At0\" cy=\"@Bt0\" r=\"4.5\" fill=\"#fff\" stroke=\"#000\" stroke-width=\"1.5\"/>\n",
@@ -111,7 +104,7 @@ fn low(slot: Slot, up: u32, page: &mut Page)
     }
 }
 
-// Each rank in turn.
+// Each rank in turn. Each crate that draws has its own `each`: a public one would have to require what its closure does, and no public function requires anything.
 fn each<F: Fn(usize, &mut Page)>(page: &mut Page, draw: F)
     requires callable { F.IsAlwaysCallable draw }
     requires extends { (i : _) (p : _) (q : _) → F.post draw i p tt q → Extends p.now q.now }
@@ -128,8 +121,8 @@ pub fn rays(view: View, up: u32, page: &mut Page)
 {
     each(page, |i, page| leader(view, up, i, page));
     each(page, |i, page| ringed(view, up, i, page));
-    for s in 0..layout::SLOTS {
-        low(Slot { view, s }, up, page);
+    for slot in slots(view) {
+        low(slot, up, page);
     }
 }
 
@@ -145,7 +138,10 @@ fn listed(slot: Slot, page: &mut Page)
         b"<circle cx=\"673\" cy=\"@At0\" r=\"9\" fill=\"#fff\" stroke=\"#000\" stroke-width=\"1.3\"/><text x=\"673\" y=\"@Bt0\" text-anchor=\"middle\" font-weight=\"bold\">@Cw0</text><text x=\"752\" y=\"@Bt0\" text-anchor=\"end\">@D3i</text><text x=\"758\" y=\"@Bt0\">deg</text><text x=\"796\" y=\"@Bt0\">",
         &[y, y + 40, slot.s as u32 + 1, slot.bits()],
     );
-    names::layer(view::word(slot.view.answer, layout::ITMOD + slot.s), page);
+    names::layer(
+        view::word(slot.view.answer, layout::ITMOD + slot.s).into(),
+        page,
+    );
     page.text(b"</text>\n");
 }
 
@@ -153,7 +149,7 @@ fn listed(slot: Slot, page: &mut Page)
 pub fn list(view: View, page: &mut Page)
     ensures { Extends page.old page.new }
 {
-    for s in 0..layout::SLOTS {
-        listed(Slot { view, s }, page);
+    for slot in slots(view) {
+        listed(slot, page);
     }
 }

@@ -5,6 +5,7 @@ ghost use Rattle.curve.specs.Rows.{largest};
 ghost use Rattle.rays.specs.Rays.{angle_of, high_of};
 
 use job::layout;
+use std::array;
 use view::{State, View};
 
 // A slot of the answer, counted from 0.
@@ -47,14 +48,10 @@ impl Slot<'_> {
     fn rank(self) -> usize
         ensures { result ≤ 6 }
     {
-        let mut n = 0;
-        for s in 0..layout::SLOTS {
-            let slot = Slot { view: self.view, s };
-            if slot.is_before(self) {
-                n += 1;
-            }
-        }
-        n
+        slots(self.view)
+            .iter()
+            .filter(|slot| slot.is_before(self))
+            .count()
     }
 
     #[tactic(auto, unfolding(crate::specs::Rays::high_of))]
@@ -65,15 +62,20 @@ impl Slot<'_> {
     }
 }
 
+// The answer's slots.
+pub(crate) fn slots<'a>(view: View<'a>) -> [Slot<'a>; layout::SLOTS] {
+    array::from_fn(
+        |s|
+            requires { s < 6 }
+        { Slot { view, s } },
+    )
+}
+
 // The slot of the ray of rank i.
 pub(crate) fn at_rank<'a>(view: View<'a>, i: usize) -> Option<Slot<'a>> {
-    for s in 0..layout::SLOTS {
-        let slot = Slot { view, s };
-        if slot.is_ray() && slot.rank() == i {
-            return Some(slot);
-        }
-    }
-    None
+    slots(view)
+        .into_iter()
+        .find(|slot| slot.is_ray() && slot.rank() == i)
 }
 
 // The place of its dot.
@@ -123,7 +125,7 @@ pub(crate) fn above(view: View, x: u32, i: usize) -> u32 {
     if one_side(x) { left } else { left / 2 }
 }
 
-// The highest ray's angle; 0 where there is none.
+// The highest ray's angle; 0 where there is none. A fold is longer: its closure has to say which slots it takes, and what it gives. Nor does curve's `largest` serve: a public one would have to require what its closure does, and no public function requires anything.
 #[tactic(auto, using(curve::proofs::RowLaws::largest_steps))]
 pub fn highest(view: View) -> u32
     ensures { result ≡ largest (high_of view.entry.job.now view.entry.answer.now) 6 }

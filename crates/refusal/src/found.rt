@@ -1,4 +1,5 @@
 // What was found in the job where the limit is broken. The place is looked for here; where none is found there is no line.
+// A place is the number of a word, as in `job::layout`: the job is lent bytes, of any length, and has no fields to name.
 #![tactic(auto, using(decimal::proofs::PageLaws::extends))]
 
 ghost use Rattle.std.specs.Prelude.{◌<◌};
@@ -35,6 +36,7 @@ pub(crate) fn found(job: &[u8], broken: Refusal, page: &mut Page)
     }
 }
 
+// es_sheet says the same of a file, each text in its contract; here none is, and one function for both would stand in a crate below, for these two lines.
 fn bytes(job: &[u8], page: &mut Page)
     ensures { Extends page.old page.new }
 {

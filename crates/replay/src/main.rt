@@ -16,31 +16,13 @@ mod tally;
 mod walks;
 
 use std::fs::File;
-use std::io;
 use std::rt::Files;
 use tally::Tally;
 
 // The longest record's bytes.
 const LONGEST: usize = 9216;
 
-// A file of records of `size` bytes, whose answers begin at `answer`: the first record, as it is and altered, then the others.
-fn of_file<F: io::Read, A: Fn(&[u8]) -> bool>(
-    file: &mut F,
-    size: usize,
-    answer: usize,
-    agrees: A,
-) -> Tally
-    requires fits { size ≤ 9216 }
-    requires callable { (state : A) (x : _) → A.pre state x }
-{
-    let mut record = [0u8; LONGEST];
-    let r = &mut record[..size];
-    let mut t = altered::first(file, r, answer, &agrees);
-    t += files::tally_of(file, r, &agrees);
-    t
-}
-
-// One that cannot be opened cannot be read.
+// A file of records of `size` bytes, whose answers begin at `answer`: the first record, as it is and altered, then the others. One that cannot be opened cannot be read.
 fn file<R: Files + Print, A: Fn(&[u8]) -> bool>(
     rt: &R,
     path: &str,
@@ -52,7 +34,13 @@ fn file<R: Files + Print, A: Fn(&[u8]) -> bool>(
     requires callable { (state : A) (x : _) → A.pre state x }
 {
     let t = match File::open(rt, path) {
-        Ok(mut file) => of_file(&mut file, size, answer, agrees),
+        Ok(mut file) => {
+            let mut record = [0u8; LONGEST];
+            let r = &mut record[..size];
+            let mut t = altered::first(&mut file, r, answer, &agrees);
+            t += files::tally_of(&mut file, r, &agrees);
+            t
+        }
         Err(_) => Tally::unread(),
     };
     let _ = println!(rt; "{path}: {t}");

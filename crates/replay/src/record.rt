@@ -1,4 +1,4 @@
-// The words of a record, least byte first. `at` counts bytes; what lies past the record's end reads as 0.
+// The words of a record, least byte first. `at` counts bytes; what lies past the record's end reads as 0. It is a sum of constants at each call, so where something is added to it its bound is asked for, and no value holds it.
 ghost use Rattle.std.specs.Prelude.{◌≡◌, ◌≤◌, ◌==◌, length};
 ghost use Rattle.words.specs.Words.{word_at};
 ghost use Rattle.replay.specs.Stored.{Stand, Tells};
@@ -27,7 +27,7 @@ pub(crate) fn has<W: Word>(r: &[u8], at: usize, x: W) -> bool
     x.to_word() == words::word(r, at)
 }
 
-// Whether the words from `at` on are those of xs.
+// Whether the words from `at` on are those of xs. A loop: to the closure of `all` its i has no bound, and the sum would need one of its own.
 pub(crate) fn has_all<W: Word>(r: &[u8], at: usize, xs: &[W]) -> bool
     requires at_le { at ≤ 10000 }
     requires few { length xs.now ≤ 10000 }

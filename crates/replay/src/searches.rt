@@ -64,15 +64,18 @@ pub(crate) fn agrees(r: &[u8]) -> bool {
     }
     let rows = &r[ROWS..];
     let left = &r[LEFT..];
-    let s = fdist::fdist(
-        slots(r),
+    let outcome = fdist::fdist(
         walks::reflectrix(rows),
         record::float(r, GHOP),
         record::float(r, AMIND),
         record::float(r, FREQ),
     );
-    (words::word(r, ANSWER) == s.refusal)
-        & (words::word(r, PAIRS) == s.pairs)
-        & (words::word(r, RAYS) == s.rays)
-        & are_slots(left, &s.m)
+    let (pairs, rays, m) = match outcome {
+        Ok(found) => (found.pairs, found.rays, found.m),
+        Err(_) => (0, 0, slots(r)),
+    };
+    (words::word(r, ANSWER) == limits::code(outcome))
+        & (words::word(r, PAIRS) == pairs)
+        & (words::word(r, RAYS) == rays)
+        & are_slots(left, &m)
 }

@@ -3,7 +3,7 @@ use std::fmt;
 use std::fmt::{Display, Formatter};
 use std::ops::AddAssign;
 
-// Records that agree, of how many; altered ones that agree all the same, of how many; whether a file could not be read to its end.
+// Records that agree, of how many; altered ones that agree all the same, of how many; and, added as they are, whether a file could not be read to its end.
 #[derive(Clone, Copy, Default)]
 pub(crate) struct Tally {
     pub(crate) agree: u64,

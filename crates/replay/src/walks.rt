@@ -150,8 +150,9 @@ pub(crate) fn agrees(r: &[u8]) -> bool {
         return false;
     }
     let left = &r[LEFT..];
-    let w = findf::findf(
-        reflectrix(r),
+    let rfx = reflectrix(r);
+    let outcome = findf::findf(
+        rfx,
         record::count(r, K),
         record::count(r, NANG),
         record::float(r, FREQ),
@@ -159,8 +160,12 @@ pub(crate) fn agrees(r: &[u8]) -> bool {
         points(r),
         tables(r),
     );
-    (words::word(r, ANSWER) == w.refusal)
-        & (words::word(r, LOOKS) == w.looks)
-        & are_columns(left, &w.rfx)
-        & are_figures(left, &w.rfx)
+    let (looks, rfx) = match outcome {
+        Ok(walked) => (walked.looks, walked.rfx),
+        Err(_) => (0, rfx),
+    };
+    (words::word(r, ANSWER) == limits::code(outcome))
+        & (words::word(r, LOOKS) == looks)
+        & are_columns(left, &rfx)
+        & are_figures(left, &rfx)
 }

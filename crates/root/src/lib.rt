@@ -79,45 +79,48 @@ fn last_digits(g: f64) -> u64
     }
 }
 
-// About √w.
-fn guess(w: u64) -> u64
-    requires { w < 2 ^ 48 }
-    ensures { result < 2 ^ 25 }
-{
-    let f = (w as i64) as f64;
-    let y = rough_inverse(f);
-    let g = f * y;
-    let e = 1.0 - g * y;
-    last_digits(g + g * e * (0.5 + 0.375 * e))
+// A whole number above 0, of 48 binary digits at most.
+#[derive(Clone, Copy)]
+struct Radicand {
+    w: u64,
+    ghost above_zero: { 0 < w },
+    ghost digits: { w < 2 ^ 48 },
 }
 
-// The first r from the guess downward with (r - 1/2)² below w.
-fn lower(w: u64, guess: u64) -> u64
-    requires fact_1 { 0 < w }
-    requires fact_2 { w < 2 ^ 48 }
-    requires fact_3 { guess < 2 ^ 25 }
-    ensures fact_1 { result * result < w + result }
-    ensures fact_2 { result < 2 ^ 25 }
-{
-    let mut r = guess;
-    while w + r <= r * r {
-        r -= 1;
+impl Radicand {
+    // About √w.
+    fn guess(self) -> u64
+        ensures { result < 2 ^ 25 }
+    {
+        let f = (self.w as i64) as f64;
+        let y = rough_inverse(f);
+        let g = f * y;
+        let e = 1.0 - g * y;
+        last_digits(g + g * e * (0.5 + 0.375 * e))
     }
-    r
-}
 
-// The whole number nearest to √w, whatever the guess: the first r from there upward with (r + 1/2)² above w.
-fn nearest_root(w: u64, guess: u64) -> u64
-    requires fact_1 { 0 < w }
-    requires fact_2 { w < 2 ^ 48 }
-    requires fact_3 { guess < 2 ^ 25 }
-    ensures { result ≡ nearest_root w }
-{
-    let mut r = lower(w, guess);
-    while r * r + r < w {
-        r += 1;
+    // The first r from the guess downward with (r - 1/2)² below w. A search for a number: there is no index to count.
+    fn lower(self) -> u64
+        ensures fact_1 { result * result < self.w + result }
+        ensures fact_2 { result < 2 ^ 25 }
+    {
+        let mut r = self.guess();
+        while self.w + r <= r * r {
+            r -= 1;
+        }
+        r
     }
-    r
+
+    // The whole number nearest to √w, whatever the guess: the first r from there upward with (r + 1/2)² above w. No index here either.
+    fn nearest_root(self) -> u64
+        ensures { result ≡ nearest_root self.w }
+    {
+        let mut r = self.lower();
+        while r * r + r < self.w {
+            r += 1;
+        }
+        r
+    }
 }
 
 // The root of the finite f32 above 0 that has the bits b.
@@ -127,9 +130,10 @@ fn root_of_bits(b: u32) -> f32
     ensures { result ≡ sqrt_of (of_bits binary32 b) }
 {
     let p = take_apart(b);
-    let w = (p.s << 24) >> (p.e % 2);
-    let r = nearest_root(w, guess(w));
-    put_together(r, (p.e - 23) / 2)
+    let radicand = Radicand {
+        w: (p.s << 24) >> (p.e % 2),
+    };
+    put_together(radicand.nearest_root(), (p.e - 23) / 2)
 }
 
 // The square root of x: the nearest f32. NaN for NaN and below 0; -0, +0 and infinity are their own.

@@ -35,16 +35,17 @@ pub(crate) struct Magnitude {
     ghost field_bound: { field < 176 },
 }
 
-// n / p, to the nearest, ties to even.
-fn nearest(n: u64, p: u64) -> u64
-    requires p_nonzero { 0 < p }
-    requires p_bound { p < 2 ^ 60 }
-    requires n_bound { n < 2 ^ 60 }
-    ensures { result ≡ meant.nearest n p }
+// n / p, to the nearest, ties to even; 0 where p is 0.
+pub fn nearest(n: u64, p: u64) -> u64
+    ensures value { 0 < p → result ≡ meant.nearest n p }
+    ensures zero { p ≡ 0 → result ≡ 0 }
 {
+    if p == 0 {
+        return 0;
+    }
     let q = n / p;
     let r = n % p;
-    if p < 2 * r + q % 2 {
+    if p - r < r + q % 2 {
         return q + 1;
     }
     q
@@ -94,6 +95,7 @@ impl Magnitude {
         requires { places ≤ 3 }
         ensures { text_of width result ≡ shown_in below self.significand self.field width places }
     {
+        // A loop: `find_map` would take the same lines as a closure, and a default behind it.
         for left in (0..places + 1).rev() {
             let units = self.units(power(left));
             if columns(below, units, left) <= width {

@@ -15,7 +15,7 @@ fn sized(w: u32, t: u64, most: u32) -> u32
     }
 }
 
-// In tenths, to the nearest; `most` where it is more, or no number.
+// In tenths, to the nearest; `most` where it is more, or no number. This and the next are `sized` at one number each: a public `sized` would have to require that t fits.
 pub fn tenths_of(w: u32, most: u32) -> u32
     ensures { result ≡ min (units_of w 10) most }
 {

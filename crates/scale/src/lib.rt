@@ -61,13 +61,14 @@ fn step_for(top: u32, most: u32) -> u32
     ensures least { Least top most result }
     ensures result_nonzero { 1 ≤ result }
 {
-    for step in STEPS {
-        if (top as u64) <= product(most, step) {
-            return step;
-        }
+    match STEPS
+        .iter()
+        .find(|step| (top as u64) <= product(most, **step))
+    {
+        Some(step) => *step,
+        // The last reaches every top.
+        None => STEPS[20],
     }
-    // The last reaches every top.
-    STEPS[20]
 }
 
 impl Marking {
@@ -99,7 +100,7 @@ fn over(far: u32) -> u32
 pub fn beyond(far: u32, asked: u32) -> bool
     ensures { result ≡ beyond_of far asked }
 {
-    (0 < far) & (3 * (far as u64) < 2 * (asked as u64))
+    0 < far && 3 * (far as u64) < 2 * (asked as u64)
 }
 
 // The axis of lengths: `far` is the longest row's, `asked` the asked one.

@@ -6,7 +6,7 @@ ghost use Rattle.decimal.specs.Page.{Extends};
 
 use decimal::Page;
 use job::layout;
-use view::{View, above, word};
+use view::{Layer, View, above, word};
 
 // The columns of a line.
 const LINE: usize = 78;
@@ -35,11 +35,10 @@ fn rule(page: &mut Page)
 fn trimmed(text: &[u8], kept: usize) -> usize
     ensures { kept ≤ result }
 {
-    let mut n = text.len();
-    while n > kept && text[n - 1] == b' ' {
-        n -= 1;
+    match text.iter().rposition(|b| *b != b' ') {
+        Some(i) => kept.max(i + 1),
+        None => kept,
     }
-    n.max(kept)
 }
 
 // The heading and the name. No line ends in spaces, so a name's own are dropped there.
@@ -79,12 +78,12 @@ fn pierced(v: &[u32; 2], page: &mut Page)
     }
 }
 
-fn layer(view: View, l: usize, page: &mut Page)
-    requires { l < 3 }
+fn layer(view: View, layer: Layer, page: &mut Page)
     ensures { Extends page.old page.new }
 {
+    let l = layer as usize - 1;
     let v = [view.critical(l), word(view.answer, layout::DELPEN + l)];
-    if l == 1 && !above(v[0], 0) {
+    if layer == Layer::F1 && !above(v[0], 0) {
         page.text(b"     none     no F1 layer\n");
     } else {
         pierced(&v, page);
@@ -106,9 +105,9 @@ pub(crate) fn asked(view: View, page: &mut Page)
         b"\n  Frequency     @A39 MHz          Layer     Critical   Pierced above\n  Asked hop     @B19 km                          MHz             deg\n  Minimum angle @C39 deg          E        ",
         &v,
     );
-    layer(view, 0, page);
+    layer(view, Layer::E, page);
     page.filled(b"  Table angles  @Dw9 of 40        F1       ", &v);
-    layer(view, 1, page);
+    layer(view, Layer::F1, page);
     page.filled(b"  Point         @Ew9 of 0 to 4    F2       ", &v);
-    layer(view, 2, page);
+    layer(view, Layer::F2, page);
 }

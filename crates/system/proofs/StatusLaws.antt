@@ -1,8 +1,7 @@
 -- Laws of exit statuses. Assumes nothing.
-use Rattle.std.proofs.Common.{◌≡◌, refl, sym, ◌∙◌, ◌⊎◌, inl, inr, arith, ◌<◌, ◌≤◌, ℕ, zero, suc, Bool, true, false, ◌||◌, eqb, Result, Ok, Err}
+use Rattle.std.proofs.Common.{◌≡◌, refl, sym, ◌∙◌, ◌⊎◌, inl, inr, arith, ◌<◌, ◌≤◌, ℕ, true, Result, Ok, Err}
 use Rattle.std.specs.Prelude.{⊤}
-use borrow.Author.Tests.{eq-eqb}
-use Rattle.system.specs.Status.{is_status, ends_as}
+use Rattle.system.specs.Status.{is_status}
 use Rattle.system.specs.Outcome.{status_of}
 use Rattle.system.specs.declared.outcome.Failure.{Failure}
 use Rattle.system.specs.declared.outcome.Failure.TheVariants.{Refused, Usage, NoInput, NoOutput, NotWritten}
@@ -20,17 +19,3 @@ status_named (Err NotWritten) = refl
 pub unrefused : {r n : ℕ} → r ≡ n → n ≤ 14 → (r ≡ 0) ⊎ (14 < r) → 0 ≡ n
 unrefused e most (inl none) = sym none ∙ e
 unrefused e most (inr above) = absurd (omega arith)
-
--- with the number itself
-pub ends_number : (n : ℕ) → ends_as n n ≡ true
-ends_number zero = refl
-ends_number (suc n) = rw (eq-eqb (suc n) (suc n) refl)
-
--- where what is printed cannot be written
-pub ends_unwritten : (n : ℕ) → ends_as n 74 ≡ true
-ends_unwritten zero = refl
-ends_unwritten (suc n) = go (eqb 74 (suc n))
-  where
-    go : (b : Bool) → (b || true) ≡ true
-    go true = refl
-    go false = refl

@@ -22,14 +22,10 @@ pub fn gather<R: Env>(rt: &R, line: &mut Page) -> Result<(), FillError>
 fn few<R: Env>(rt: &R) -> usize
     ensures { result ≤ 11 }
 {
-    for count in 0..11 {
-        if !is_there(rt, count) {
-            return count;
-        }
-    }
-    11
+    (0..11).find(|i| !is_there(rt, *i)).unwrap_or(11)
 }
 
+// Asked for one by one: std's `args` allocates, and takes no word that is not UTF-8.
 fn is_there<R: Env>(rt: &R, i: usize) -> bool {
     !matches!(rt.arg(i, &mut []), Err(FillError::NotPresent))
 }

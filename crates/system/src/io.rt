@@ -1,5 +1,5 @@
 // The handles that a command works with.
-ghost use Rattle.std.specs.Prelude.{◌≡◌, true, ◌≤◌, length, IfOk, IsOkUnless};
+ghost use Rattle.std.specs.Prelude.{◌≡◌, true, ◌≤◌, length, IfOk, IfErr, IsOkUnless};
 ghost use Rattle.system.specs.Status.{ends_as};
 ghost use Rattle.system.specs.Outcome.{status_of};
 ghost use Rattle.system.specs.Input.{shown_of};
@@ -15,7 +15,7 @@ pub struct Io<'a, R, O, E> {
     pub err: &'a E,
 }
 
-impl<R: Files + Input + Eprint, O: Print, E: Print> Io<'_, R, O, E> {
+impl<R, O, E: Print> Io<'_, R, O, E> {
     // Wrong use, and what is wrong: a word stands in the line as it was given.
     pub fn wrong(&self, before: &[u8], word: &[u8], after: &[u8]) -> Failure
         ensures { result ≡ Failure.Usage }
@@ -24,19 +24,31 @@ impl<R: Files + Input + Eprint, O: Print, E: Print> Io<'_, R, O, E> {
         Failure::Usage
     }
 
-    // The named job, or standard input; a failure is said.
-    pub fn read(&self, name: &[u8], buf: &mut [u8]) -> Result<usize, Failure>
-        ensures { IfOk result (λ n. n ≤ length buf.old) }
+    fn unwritten(&self, name: &[u8]) -> Failure
+        ensures { result ≡ Failure.NotWritten }
+    {
+        errors::say(self.err, b"", name, b": not all could be written\n");
+        Failure::NotWritten
+    }
+}
+
+impl<R: Files + Input + Eprint, O, E> Io<'_, R, O, E> {
+    // What comes of the named job, or of standard input, until the buffer is full; a failure is said.
+    pub fn read<'b>(&self, name: &[u8], buf: &'b mut [u8]) -> Result<&'b mut [u8], Failure>
+        ensures within { IfOk result (λ bytes. length bytes.now ≤ length buf.old) }
+        ensures failure { IfErr result (λ why. why ≡ Failure.NoInput) }
     {
         match files::fill(self.rt, name, buf) {
-            Ok(count) => Ok(count),
+            Ok(count) => Ok(&mut buf[..count]),
             Err(error) => {
                 errors::failed(self.rt, shown(name), error);
                 Err(Failure::NoInput)
             }
         }
     }
+}
 
+impl<R, O: Print, E: Print> Io<'_, R, O, E> {
     pub fn print(&self, bytes: &[u8]) -> Result<(), Failure>
         ensures { IsOkUnless result Failure.NotWritten }
     {
@@ -45,7 +57,9 @@ impl<R: Files + Input + Eprint, O: Print, E: Print> Io<'_, R, O, E> {
         }
         Err(self.unwritten(b"standard output"))
     }
+}
 
+impl<R: Files + Eprint, O: Print, E: Print> Io<'_, R, O, E> {
     // To the named file, or to standard output.
     pub fn write(&self, bytes: &[u8], name: &[u8]) -> Result<(), Failure>
         ensures { ends_as 0 (status_of result) ≡ true }
@@ -66,13 +80,6 @@ impl<R: Files + Input + Eprint, O: Print, E: Print> Io<'_, R, O, E> {
                 Err(Failure::NoOutput)
             }
         }
-    }
-
-    fn unwritten(&self, name: &[u8]) -> Failure
-        ensures { result ≡ Failure.NotWritten }
-    {
-        errors::say(self.err, b"", name, b": not all could be written\n");
-        Failure::NotWritten
     }
 }
 

@@ -12,6 +12,7 @@ pub struct Refused {
     pub ghost in_help: { is_status (number_of why) ≡ true },
 }
 
+// Each is an error: that all is done is `Ok`.
 #[derive(Clone, Copy, Debug, PartialEq, Eq)]
 pub enum Failure {
     Refused(Refused),

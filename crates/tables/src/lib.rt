@@ -6,7 +6,7 @@ ghost use Rattle.decimal.specs.Page.{Extends};
 
 use decimal::Page;
 use job::layout;
-use view::{State, View, above, word};
+use view::{Layer, State, View, above, word};
 
 mod reflectrix;
 
@@ -16,11 +16,11 @@ pub use reflectrix::rows;
 const FARTHEST_SKIP: u32 = 0x461c_4000;
 
 // A layer's name, in two columns.
-fn letters(n: u32, page: &mut Page)
+fn letters(layer: Layer, page: &mut Page)
     ensures { Extends page.old page.new }
 {
-    names::layer(n, page);
-    if n == 1 {
+    names::layer(layer, page);
+    if layer == Layer::E {
         page.put(b' ');
     }
 }
@@ -51,7 +51,7 @@ fn slot(view: View, s: usize, page: &mut Page)
         page.text(b"empty\n");
         return;
     }
-    letters(word(view.answer, layout::ITMOD + s), page);
+    letters(word(view.answer, layout::ITMOD + s).into(), page);
     angle(&v, state, crossing::across_cusp(view, s), page);
 }
 
@@ -83,12 +83,7 @@ pub fn slots(view: View, page: &mut Page)
 
 // Whether some row has this very length.
 fn some_length(view: View, w: u32) -> bool {
-    for r in 0..view.rows() {
-        if word(view.answer, layout::GDFLX + r) == w {
-            return true;
-        }
-    }
-    false
+    (0..view.rows()).any(|r| word(view.answer, layout::GDFLX + r) == w)
 }
 
 fn nearest(view: View, page: &mut Page)
@@ -106,7 +101,7 @@ fn nearest(view: View, page: &mut Page)
         page.text(b"none below 10000 km\n");
     } else {
         page.filled(b"@A1i km at @B3i deg, layer ", &v);
-        names::layer(word(view.answer, layout::ISKP), page);
+        names::layer(word(view.answer, layout::ISKP).into(), page);
         page.text(b"\n");
     }
 }

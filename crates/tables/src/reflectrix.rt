@@ -8,69 +8,74 @@ ghost use Rattle.tables.specs.Letters.{letter_of};
 use crate::letters;
 use decimal::Page;
 use job::layout;
-use view::{RowKind, View, above, at_least, word};
+use std::cmp::Ordering;
+use view::{RowKind, View, word};
 
-// How a row's length stands to the asked one.
+// How a row's length stands to the asked one, of floats by their bits.
 fn mark(length: u32, asked: u32) -> u8 {
-    if above(asked, length) {
-        b'<'
-    } else if above(length, asked) {
-        b'>'
-    } else if at_least(length, asked) {
-        b'='
-    } else {
-        b'?'
+    match words::float(length).partial_cmp(&words::float(asked)) {
+        Some(Ordering::Less) => b'<',
+        Some(Ordering::Greater) => b'>',
+        Some(Ordering::Equal) => b'=',
+        None => b'?',
     }
-}
-
-fn row_values(answer: &[u8], r: usize) -> [u32; 7]
-    requires { r < 45 }
-{
-    [
-        (r + 1) as u32,
-        word(answer, layout::DELFX + r),
-        word(answer, layout::GDFLX + r),
-        word(answer, layout::HPFLX + r),
-        word(answer, layout::HTFLX + r),
-        word(answer, layout::FVFLX + r),
-        word(answer, layout::AFFLX + r),
-    ]
 }
 
 // How a row was made.
-fn kind_letter(k: RowKind) -> u8
+fn kind_letter(k: Option<RowKind>) -> u8
     ensures { result ≡ letter_of k }
 {
     match k {
-        RowKind::Unwritten => b'?',
-        RowKind::Table => b't',
-        RowKind::Between => b'b',
-        RowKind::Cusp => b'c',
-        RowKind::AfterCusp => b'a',
+        None => b'?',
+        Some(RowKind::Exact) => b't',
+        Some(RowKind::Interp) => b'b',
+        Some(RowKind::Cusp) => b'c',
+        Some(RowKind::NextCusp) => b'a',
     }
 }
 
-// Row r's layer and the letter of its kind.
-fn layer_and_kind(view: View, r: usize, page: &mut Page)
-    requires { r < 45 }
-    ensures { Extends page.old page.new }
-{
-    letters(word(view.answer, layout::IMODE + r), page);
-    page.put(b' ');
-    page.put(kind_letter(view.row_kind(r)));
+// A row for which the answer has room, counted from 0. `curve` has one of its own: what is done with a row is an impl, and an impl stands in its type's crate.
+#[derive(Clone, Copy)]
+struct Row<'a> {
+    view: View<'a>,
+    r: usize,
+    ghost has_room: { r < 45 },
 }
 
-// Row r, counted from 0.
-fn row(view: View, r: usize, page: &mut Page)
-    requires { r < 45 }
-    ensures { Extends page.old page.new }
-{
-    let v = row_values(view.answer, r);
-    page.filled(b"  @Aw2  ", &v);
-    layer_and_kind(view, r, page);
-    page.filled(b"   @B39   @C18 ", &v);
-    page.put(mark(v[2], view.asked()));
-    page.filled(b"@D18 @E19  @F39  @G2:\n", &v);
+impl Row<'_> {
+    fn values(self) -> [u32; 7] {
+        let Row { view, r } = self;
+        [
+            (r + 1) as u32,
+            word(view.answer, layout::DELFX + r),
+            word(view.answer, layout::GDFLX + r),
+            word(view.answer, layout::HPFLX + r),
+            word(view.answer, layout::HTFLX + r),
+            word(view.answer, layout::FVFLX + r),
+            word(view.answer, layout::AFFLX + r),
+        ]
+    }
+
+    // Its layer and the letter of its kind.
+    fn layer_and_kind(self, page: &mut Page)
+        ensures { Extends page.old page.new }
+    {
+        let Row { view, r } = self;
+        letters(word(view.answer, layout::IMODE + r).into(), page);
+        page.put(b' ');
+        page.put(kind_letter(view.row_kind(r)));
+    }
+
+    fn line(self, page: &mut Page)
+        ensures { Extends page.old page.new }
+    {
+        let v = self.values();
+        page.filled(b"  @Aw2  ", &v);
+        self.layer_and_kind(page);
+        page.filled(b"   @B39   @C18 ", &v);
+        page.put(mark(v[2], self.view.asked()));
+        page.filled(b"@D18 @E19  @F39  @G2:\n", &v);
+    }
 }
 
 fn heading(n: u32, page: &mut Page)
@@ -97,7 +102,7 @@ pub fn rows(view: View, page: &mut Page)
         b" row  layer   take-off         hop   virtual      true   vertical  absorption\n                 angle      length    height    height  frequency      factor\n                   deg          km        km        km        MHz\n",
     );
     for r in 0..view.rows() {
-        row(view, r, page);
+        Row { view, r }.line(page);
     }
     page.text(
         b"      hop: < shorter than the asked one, > longer, = the same, ? not a number\n      row: t from the table, b between two entries, c cusp, a after a cusp\n\n",

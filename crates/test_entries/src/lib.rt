@@ -7,13 +7,14 @@ ghost use Rattle.fnorml.specs.Fnorml.{fnorml_of};
 ghost use Rattle.sigdis.specs.Prbmuf.{prbmuf_of, refusal_of, left_of};
 ghost use Rattle.allmodes.specs.AllModes.{reset_of, accumulate_of};
 ghost use Rattle.findf.specs.Inputs.{job_by, tables_by};
-ghost use Rattle.findf.specs.Findf.{findf_of};
-ghost use Rattle.fdist.specs.Fdist.{fdist_of};
+ghost use Rattle.findf.specs.Findf.{walked_by, findf_of};
+ghost use Rattle.fdist.specs.Fdist.{searched_by, fdist_of};
 ghost use Rattle.test_entries.specs.Entries.{hour_of};
 
 use allmodes::{Accumulated, AllModes, Zon};
-use fdist::{HopModes, Searched};
-use findf::{Reflectrix, Tables, Walked};
+use fdist::{Found, HopModes, Searched};
+use findf::{Reflected, Reflectrix, Tables, Walked};
+use limits::Refusal;
 use sigdis::{LayerMuf, MufHour};
 
 mod lent;
@@ -109,6 +110,43 @@ pub(crate) fn tables_of(
     }
 }
 
+// An outcome as C gets it; where it is refused, what came.
+pub(crate) fn walked(outcome: Result<Reflected, Refusal>, rfx: Reflectrix) -> Walked
+    ensures { result ≡ walked_by outcome rfx }
+{
+    match outcome {
+        Ok(left) => Walked {
+            refusal: 0,
+            looks: left.looks,
+            rfx: left.rfx,
+        },
+        Err(refusal) => Walked {
+            refusal: refusal.into(),
+            looks: 0,
+            rfx,
+        },
+    }
+}
+
+pub(crate) fn searched(outcome: Result<Found, Refusal>, m: HopModes) -> Searched
+    ensures { result ≡ searched_by outcome m }
+{
+    match outcome {
+        Ok(found) => Searched {
+            refusal: 0,
+            pairs: found.pairs,
+            rays: found.rays,
+            m: found.m,
+        },
+        Err(refusal) => Searched {
+            refusal: refusal.into(),
+            pairs: 0,
+            rays: 0,
+            m,
+        },
+    }
+}
+
 #[unsafe(no_mangle)]
 pub extern "C" fn ray_findf(
     rfx: Reflectrix,
@@ -126,7 +164,8 @@ pub extern "C" fn ray_findf(
     ensures { result ≡ findf_of rfx (job_by k nang freq amind fi.now (tables_by fvert.now hprim.now htrue.now afac.now ifob.now)) }
 {
     let tables = tables_of(fvert, hprim, htrue, afac, ifob);
-    findf::findf(rfx, k, nang, freq, amind, *fi, tables)
+    let outcome = findf::findf(rfx, k, nang, freq, amind, *fi, tables);
+    walked(outcome, rfx)
 }
 
 #[unsafe(no_mangle)]
@@ -139,5 +178,5 @@ pub extern "C" fn ray_fdist(
 ) -> Searched
     ensures { result ≡ fdist_of m rfx ghop amind freq }
 {
-    fdist::fdist(m, rfx, ghop, amind, freq)
+    searched(fdist::fdist(rfx, ghop, amind, freq), m)
 }

@@ -1,11 +1,11 @@
 // `ask`: the same tables with another frequency, hop or minimum angle, as a job.
-ghost use Rattle.std.specs.Prelude.{◌≡◌, true, ◌<◌};
+ghost use Rattle.std.specs.Prelude.{◌≡◌, true, ◌<◌, fold};
 ghost use Rattle.system.specs.Status.{ends_as};
 ghost use Rattle.system.specs.Outcome.{status_of};
 ghost use Rattle.job.specs.Job.{answer_bytes, refusal_of};
 ghost use Rattle.command.specs.Ask.{put_of};
 
-use crate::refused::refused;
+use crate::refused::complained;
 use command::{Change, PairError, count, twice, word};
 use job::layout;
 use std::rt::Files;
@@ -23,28 +23,21 @@ pub(crate) fn ask<R: Files + Input + Eprint, O: Print, E: Print>(
             b"",
         ));
     }
-    let p = pair(io, line, n, 3)?;
-    let q = pair(io, line, n, 5)?;
-    let r = pair(io, line, n, 7)?;
-    if twice(p, q) {
-        return Err(again(io, line, 5));
+    let pairs = [pair(io, line, 3)?, pair(io, line, 5)?, pair(io, line, 7)?];
+    // The first that changes a word which one before it changes.
+    for (i, pair) in pairs.iter().enumerate() {
+        if pairs[..i].iter().any(|before| twice(*before, *pair)) {
+            return Err(again(io, word(line, 3 + 2 * i)));
+        }
     }
-    if twice(p, r) | twice(q, r) {
-        return Err(again(io, line, 7));
-    }
-    changed(io, line, p, q, r)
+    changed(io, line, &pairs)
 }
 
 // The pair whose name is word i, where the line has it; what is wrong with it is said.
-fn pair<R: Files + Input + Eprint, O: Print, E: Print>(
-    io: &Io<R, O, E>,
-    line: &[u8],
-    n: usize,
-    i: usize,
-) -> Result<Option<Change>, Failure>
+fn pair<R, O, E: Print>(io: &Io<R, O, E>, line: &[u8], i: usize) -> Result<Option<Change>, Failure>
     requires { i < 9 }
 {
-    if i >= n {
+    if i >= count(line) {
         return Ok(None);
     }
     let name = word(line, i);
@@ -64,43 +57,34 @@ fn pair<R: Files + Input + Eprint, O: Print, E: Print>(
     }
 }
 
-fn again<R: Files + Input + Eprint, O: Print, E: Print>(
-    io: &Io<R, O, E>,
-    line: &[u8],
-    i: usize,
-) -> Failure {
-    io.wrong(
-        b"ask has '",
-        word(line, i),
-        b"' twice; 'ray help' says more\n",
-    )
+fn again<R, O, E: Print>(io: &Io<R, O, E>, name: &[u8]) -> Failure {
+    io.wrong(b"ask has '", name, b"' twice; 'ray help' says more\n")
 }
 
 // The job that is read, with the words that the pairs change.
 fn changed<R: Files + Input + Eprint, O: Print, E: Print>(
     io: &Io<R, O, E>,
     line: &[u8],
-    p: Option<Change>,
-    q: Option<Change>,
-    r: Option<Change>,
+    pairs: &[Option<Change>; 3],
 ) -> Result<(), Failure> {
     let name = word(line, 1);
-    let mut job = [0u8; 5361];
-    let length = io.read(name, &mut job)?;
-    put_all(&mut job, p, q, r);
-    written(io, shown(name), &job[..length], word(line, 2))
+    let mut bytes = [0u8; layout::JOB_BYTES + 1];
+    let job = io.read(name, &mut bytes)?;
+    put_all(job, pairs);
+    written(io, shown(name), job, word(line, 2))
 }
 
-fn put_all(job: &mut [u8], p: Option<Change>, q: Option<Change>, r: Option<Change>)
-    ensures { job.new ≡ put_of r (put_of q (put_of p job.old)) }
+// One after the other.
+fn put_all(job: &mut [u8], pairs: &[Option<Change>])
+    ensures { job.new ≡ fold (λ bytes pair. put_of pair bytes) job.old pairs.now }
 {
-    command::put(job, p);
-    command::put(job, q);
-    command::put(job, r);
+    for pair in pairs {
+        command::put(job, *pair);
+    }
 }
 
 // The changed job goes out where the library accepts it.
-fn written<R: Files + Input + Eprint, O: Print, E: Print>(
+fn written<R: Files + Eprint, O: Print, E: Print>(
     io: &Io<R, O, E>,
     name: &[u8],
     job: &[u8],
@@ -109,11 +93,9 @@ fn written<R: Files + Input + Eprint, O: Print, E: Print>(
     ensures { ends_as (refusal_of job.now answer_bytes) (status_of result) ≡ true }
 {
     let mut answer = [0u8; layout::ANSWER_BYTES];
-    if let Err(limit) = page::numbered(job, &mut answer) {
-        let broken = limit.why;
-        return refused(io, limit, false, |page| {
-            refusal::refusal(name, job, broken, page)
-        });
-    }
+    let outcome = page::numbered(job, &mut answer);
+    complained(io, outcome, |broken, page| {
+        refusal::refusal(name, job, broken, page)
+    })?;
     io.write(job, file)
 }

@@ -4,7 +4,7 @@ ghost use Rattle.es_file.specs.File.{number_of};
 ghost use Rattle.system.specs.Status.{ends_as};
 ghost use Rattle.system.specs.Outcome.{status_of, refusal_number};
 
-use crate::refused::refused;
+use crate::refused::complained;
 use command::{count, word};
 use decimal::Page;
 use std::rt::Files;
@@ -18,24 +18,21 @@ pub(crate) fn es<R: Files + Input + Eprint, O: Print, E: Print>(
         return Err(io.wrong(b"es takes FILE; 'ray help' says more\n", b"", b""));
     }
     let name = word(line, 1);
-    let mut file = [0u8; 105];
-    let length = io.read(name, &mut file)?;
-    answered(io, shown(name), &file[..length])
+    let mut bytes = [0u8; es_file::BYTES + 1];
+    let file = io.read(name, &mut bytes)?;
+    answered(io, shown(name), file)
 }
 
-fn answered<R: Files + Input + Eprint, O: Print, E: Print>(
+fn answered<R, O: Print, E: Print>(
     io: &Io<R, O, E>,
     name: &[u8],
     file: &[u8],
 ) -> Result<(), Failure>
     ensures { ends_as (number_of file.now) (status_of result) ≡ true }
 {
-    if let Err(limit) = held(file) {
-        let broken = limit.why;
-        return refused(io, limit, false, |page| {
-            es_sheet::refusal(name, file, broken, page)
-        });
-    }
+    complained(io, held(file), |broken, page| {
+        es_sheet::refusal(name, file, broken, page)
+    })?;
     let mut bytes = [0u8; 65536];
     let mut page = Page::new(&mut bytes);
     es_sheet::page(name, file, &mut page);

@@ -1,12 +1,8 @@
 // The help.
 use command::count;
-use std::rt::Files;
 use system::{Failure, Io};
 
-pub(crate) fn help<R: Files + Input + Eprint, O: Print, E: Print>(
-    io: &Io<R, O, E>,
-    line: &[u8],
-) -> Result<(), Failure> {
+pub(crate) fn help<R, O: Print, E: Print>(io: &Io<R, O, E>, line: &[u8]) -> Result<(), Failure> {
     if count(line) > 1 {
         return Err(io.wrong(b"help takes nothing; 'ray help' says more\n", b"", b""));
     }

@@ -4,7 +4,7 @@ ghost use Rattle.job.specs.Job.{answer_bytes, refusal_of};
 ghost use Rattle.system.specs.Status.{ends_as};
 ghost use Rattle.system.specs.Outcome.{status_of};
 
-use crate::refused::refused;
+use crate::refused::{complained, reported};
 use command::{Verb, count, word};
 use decimal::Page;
 use job::layout;
@@ -26,13 +26,13 @@ pub(crate) fn of_job<R: Files + Input + Eprint, O: Print, E: Print>(
     }
     let name = word(line, 1);
     let file = if n == 3 { Some(word(line, 2)) } else { None };
-    let mut job = [0u8; 5361];
-    let length = io.read(name, &mut job)?;
-    answered(io, shown(name), &job[..length], verb, file)
+    let mut bytes = [0u8; layout::JOB_BYTES + 1];
+    let job = io.read(name, &mut bytes)?;
+    answered(io, shown(name), job, verb, file)
 }
 
 // All the work is done before the output is opened.
-fn answered<R: Files + Input + Eprint, O: Print, E: Print>(
+fn answered<R: Files + Eprint, O: Print, E: Print>(
     io: &Io<R, O, E>,
     name: &[u8],
     job: &[u8],
@@ -42,11 +42,12 @@ fn answered<R: Files + Input + Eprint, O: Print, E: Print>(
     ensures { ends_as (refusal_of job.now answer_bytes) (status_of result) ≡ true }
 {
     let mut answer = [0u8; layout::ANSWER_BYTES];
-    if let Err(limit) = page::numbered(job, &mut answer) {
-        let broken = limit.why;
-        return refused(io, limit, verb == Verb::Check, |page| {
-            refusal::refusal(name, job, broken, page)
-        });
+    let outcome = page::numbered(job, &mut answer);
+    let lines = |broken, page: &mut Page| refusal::refusal(name, job, broken, page);
+    if verb == Verb::Check {
+        reported(io, outcome, lines)?;
+    } else {
+        complained(io, outcome, lines)?;
     }
     let mut bytes = [0u8; 65536];
     let mut text = Page::new(&mut bytes);

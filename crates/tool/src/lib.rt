@@ -1,4 +1,4 @@
-// The tool `ray`: reads a job, has the library answer it, and prints or writes what a command asks for. What is answered is the exit status.
+// The tool `ray`: reads a job, has the library answer it, and prints or writes what a command asks for. What is answered is the exit status. There is no heap: jobs, answers and pages are arrays on the stack.
 #![tactic(auto)]
 
 mod ask;

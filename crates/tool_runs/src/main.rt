@@ -12,9 +12,11 @@ fn main(rt: HostRuntime) -> io::Result<()> {
         out: &rt,
         err: &rt,
     };
-    let mut text = [0u8; 65536];
-    let length = io.read(b"-", &mut text).unwrap_or(0);
-    runs(&io, &text[..length])
+    let mut bytes = [0u8; 65536];
+    let Ok(text) = io.read(b"-", &mut bytes) else {
+        return Ok(());
+    };
+    runs(&io, text)
 }
 
 fn runs<R: Files + Input + Print + Eprint>(io: &Io<R, R, R>, text: &[u8]) -> io::Result<()> {
@@ -40,12 +42,8 @@ fn split(line: &[u8], words: &mut Page) {
     if line.is_empty() {
         return;
     }
-    for b in line {
-        words.put(unless_space(*b));
+    for word in line.split(|b| *b == b' ') {
+        words.text(word);
+        words.put(0);
     }
-    words.put(0);
-}
-
-fn unless_space(b: u8) -> u8 {
-    if b == b' ' { 0 } else { b }
 }

@@ -1,5 +1,5 @@
 -- What the sheet and the drawing read of the bytes of a job and of its answer.
-use Rattle.std.specs.Prelude.{ℕ, zero, suc, ◌+◌, ◌*◌, Bool, true, false, ◌&&◌, cond, min, List, eqb, leb, ltb, Float}
+use Rattle.std.specs.Prelude.{ℕ, zero, suc, ◌+◌, ◌*◌, Bool, true, false, ◌&&◌, cond, min, List, Option, Some, None, eqb, leb, ltb, Float}
 use Prim.Native.String.{String}
 use Rattle.std.specs.Float.{binary32}
 use Rattle.std.specs.Float.Ieee.{to_bits, le}
@@ -7,8 +7,10 @@ use Rattle.arith.specs.Floats.{◌⊗◌, f32, RZ}
 use Rattle.job.specs.Layout.{place_of, word}
 use Rattle.job.specs.Parts.{point_numbers, shared_layout, job_layout}
 use Rattle.job.specs.Answer.{column_rows, slots, answer_layout}
-use Rattle.view.specs.declared.RowKind.{RowKind}
-use Rattle.view.specs.declared.RowKind.TheVariants.{Unwritten, Table, Between, Cusp, AfterCusp}
+use Rattle.view.specs.declared.Layer.{Layer}
+use Rattle.view.specs.declared.Layer.TheVariants.{E, F1, F2}
+use Rattle.findf.specs.declared.RowKind.{RowKind}
+use Rattle.findf.specs.declared.RowKind.TheVariants.{Exact, Interp, Cusp, NextCusp}
 use Rattle.view.specs.declared.State.{State}
 use Rattle.view.specs.declared.State.TheVariants.{Empty, Ray, TooLow}
 
@@ -26,6 +28,15 @@ asked_of job = to_bits binary32 (f32 (word job (of_job "ghop")) ⊗ RZ)
 -- the bits of the critical frequency of layer l (0 E, 1 F1, 2 F2) at the job's point; 0 where there is no such point or layer
 unfoldable pub critical_of : List ℕ → ℕ → ℕ
 critical_of job l = let k = word job 0 in cond (leb k 4 && leb l 2) (word job (of_job "fi" + point_numbers * k + l)) 0
+
+-- a layer's number in the answer, and the layer that the pages show for a number: 1 E, 2 F1, else F2
+abbrev pub layer_number : Layer → ℕ
+layer_number E = 1
+layer_number F1 = 2
+layer_number F2 = 3
+
+abbrev pub layer_by : ℕ → Layer
+layer_by n = cond (eqb n 1) E (cond (eqb n 2) F1 F2)
 
 -- "A slot is empty where its layer is 5; else it is a ray where its angle is ≥ amind, else too low."
 unfoldable pub slot_by : ℕ → Float → Float → State
@@ -59,23 +70,23 @@ abbrev pub rows_of : List ℕ → ℕ
 rows_of answer = min (word answer (of_answer "rows")) column_rows
 
 -- order 2: "1 exact or filled because the lowest entry passes, 2 interpolated, 3 cusp, 4 the row after a cusp"; "Rows not written in this call have 0"
-unfoldable pub row_kind_by : ℕ → RowKind
-row_kind_by n = cond (eqb n 1) Table (cond (eqb n 2) Between (cond (eqb n 3) Cusp (cond (eqb n 4) AfterCusp Unwritten)))
+unfoldable pub row_kind_by : ℕ → Option RowKind
+row_kind_by n = cond (eqb n 1) (Some Exact) (cond (eqb n 2) (Some Interp) (cond (eqb n 3) (Some Cusp) (cond (eqb n 4) (Some NextCusp) None)))
 
 -- the kind of row r, counted from 0
-unfoldable pub row_kind_of : List ℕ → ℕ → RowKind
-row_kind_of answer r = cond (ltb r column_rows) (row_kind_by (word answer (of_answer "kind" + r))) Unwritten
+unfoldable pub row_kind_of : List ℕ → ℕ → Option RowKind
+row_kind_of answer r = cond (ltb r column_rows) (row_kind_by (word answer (of_answer "kind" + r))) None
 
-abbrev pub is_cusp : RowKind → Bool
-is_cusp Unwritten = false
-is_cusp Table = false
-is_cusp Between = false
-is_cusp Cusp = true
-is_cusp AfterCusp = false
+abbrev pub is_cusp : Option RowKind → Bool
+is_cusp None = false
+is_cusp (Some Exact) = false
+is_cusp (Some Interp) = false
+is_cusp (Some Cusp) = true
+is_cusp (Some NextCusp) = false
 
-abbrev pub is_after_cusp : RowKind → Bool
-is_after_cusp Unwritten = false
-is_after_cusp Table = false
-is_after_cusp Between = false
-is_after_cusp Cusp = false
-is_after_cusp AfterCusp = true
+abbrev pub is_after_cusp : Option RowKind → Bool
+is_after_cusp None = false
+is_after_cusp (Some Exact) = false
+is_after_cusp (Some Interp) = false
+is_after_cusp (Some Cusp) = false
+is_after_cusp (Some NextCusp) = true

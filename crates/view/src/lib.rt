@@ -5,9 +5,11 @@ ghost use Rattle.std.specs.Prelude.{◌≡◌, ◌+◌, ◌≤◌, min};
 ghost use Rattle.std.specs.Float.Ieee.{lt, le};
 ghost use Rattle.arith.specs.Floats.{f32};
 ghost use Rattle.job.specs.Layout as meant;
+ghost use Rattle.job.specs.Parts.{number_at};
 ghost use Rattle.job.specs.Answer.{column_rows, slots};
-ghost use Rattle.view.specs.View.{asked_of, critical_of, slot_of, ray_at, rays_before, rows_of, row_kind_by, row_kind_of, is_cusp, is_after_cusp};
+ghost use Rattle.view.specs.View.{asked_of, critical_of, slot_of, ray_at, rays_before, rows_of, row_kind_by, row_kind_of, is_cusp, is_after_cusp, layer_number, layer_by};
 
+pub use findf::RowKind;
 use job::layout;
 
 // Words of the job that its points share, counted from the job's first.
@@ -21,37 +23,42 @@ pub const GHOP: usize = layout::SHARED + layout::GHOP;
 
 pub const FI: usize = layout::SHARED + layout::FI;
 
-// A slot of the answer: its layer is 5, its angle is at or above the minimum angle, or below it.
+// A layer: as u32 it is its number in the answer.
+#[derive(Clone, Copy, Debug, PartialEq, Eq)]
+pub enum Layer {
+    E = 1,
+    F1,
+    F2,
+}
+
+impl From<Layer> for u32 {
+    ghost from_gives = { λ layer n. n ≡ layer_number layer };
+
+    fn from(layer: Layer) -> u32 {
+        layer as u32
+    }
+}
+
+// A number that is none of theirs is F2's, as the pages show it.
+impl From<u32> for Layer {
+    ghost from_gives = { λ n layer. layer ≡ layer_by n };
+
+    #[tactic(auto, using(std::proofs::lemmas::Bool::Decides::nat_tests))]
+    fn from(n: u32) -> Layer {
+        match n {
+            1 => Layer::E,
+            2 => Layer::F1,
+            _ => Layer::F2,
+        }
+    }
+}
+
+// A slot of the answer: it has no layer, its angle is at or above the minimum angle, or below it.
 #[derive(Clone, Copy, Debug, PartialEq, Eq)]
 pub enum State {
     Empty,
     Ray,
     TooLow,
-}
-
-// How a row of the reflectrix was made.
-#[derive(Clone, Copy, Debug, PartialEq, Eq)]
-pub enum RowKind {
-    Unwritten,
-    Table,
-    Between,
-    Cusp,
-    AfterCusp,
-}
-
-impl From<u32> for RowKind {
-    ghost from_gives = { λ n k. k ≡ row_kind_by n };
-
-    #[tactic(auto, using(std::proofs::lemmas::Bool::Decides::nat_tests), unfolding(crate::specs::View::row_kind_by))]
-    fn from(n: u32) -> RowKind {
-        match n {
-            findf::KIND_EXACT => RowKind::Table,
-            findf::KIND_INTERP => RowKind::Between,
-            findf::KIND_CUSP => RowKind::Cusp,
-            findf::KIND_NEXT_CUSP => RowKind::AfterCusp,
-            _ => RowKind::Unwritten,
-        }
-    }
 }
 
 // The bytes of a job and of its answer.
@@ -69,7 +76,7 @@ impl View<'_> {
         words::bits(words::float(word(self.job, GHOP)) * arith::RZ)
     }
 
-    // The bits of the critical frequency of layer l (0 E, 1 F1, 2 F2) at the job's point.
+    // The bits of the critical frequency of layer l (0 E, 1 F1, 2 F2) at the job's point; 0 past the last. A place among a point's numbers, which any caller may ask for, and no `Layer`.
     #[tactic(auto, using(crate::proofs::ViewLaws::critical_is, crate::proofs::ViewLaws::no_point, crate::proofs::ViewLaws::no_layer))]
     pub fn critical(self, l: usize) -> u32
         ensures { result ≡ critical_of self.entry.job.now l }
@@ -88,7 +95,7 @@ impl View<'_> {
         if s >= layout::SLOTS {
             return State::Empty;
         }
-        if word(self.answer, layout::ITMOD + s) == 5 {
+        if word(self.answer, layout::ITMOD + s) == fdist::NO_LAYER {
             return State::Empty;
         }
         if at_least(word(self.answer, layout::DELMOD + s), word(self.job, AMIND)) {
@@ -109,11 +116,9 @@ impl View<'_> {
         ensures value { result ≡ rays_before self.entry.job.now self.entry.answer.now (min n slots) }
         ensures upper_bound { result ≤ slots }
     {
-        let mut k = 0;
-        for s in 0..n.min(layout::SLOTS) {
-            k += usize::from(self.is_ray(s));
-        }
-        k
+        (0..n.min(layout::SLOTS))
+            .filter(|s| self.is_ray(*s))
+            .count()
     }
 
     // How many rows there are, at most as many as have room.
@@ -124,29 +129,36 @@ impl View<'_> {
         (word(self.answer, layout::ROWS) as usize).min(layout::COLUMN_ROWS)
     }
 
-    // The kind of row r, counted from 0.
+    // How row r, counted from 0, was made; none where it was not written.
     #[tactic(auto, using(std::proofs::lemmas::Bool::Decides::nat_tests), unfolding(crate::specs::View::row_kind_of))]
-    pub fn row_kind(self, r: usize) -> RowKind
+    pub fn row_kind(self, r: usize) -> Option<RowKind>
         ensures { result ≡ row_kind_of self.entry.answer.now r }
     {
         if r < layout::COLUMN_ROWS {
-            return RowKind::from(word(self.answer, layout::KIND + r));
+            return kind_of(word(self.answer, layout::KIND + r));
         }
-        RowKind::Unwritten
+        None
     }
 
     // Whether row r is a cusp, and whether it is the row after one.
     pub fn is_cusp(self, r: usize) -> bool
         ensures { result ≡ is_cusp (row_kind_of self.entry.answer.now r) }
     {
-        self.row_kind(r) == RowKind::Cusp
+        self.row_kind(r) == Some(RowKind::Cusp)
     }
 
     pub fn is_after_cusp(self, r: usize) -> bool
         ensures { result ≡ is_after_cusp (row_kind_of self.entry.answer.now r) }
     {
-        self.row_kind(r) == RowKind::AfterCusp
+        self.row_kind(r) == Some(RowKind::NextCusp)
     }
+}
+
+// How a row of a kind's number was made.
+fn kind_of(number: u32) -> Option<RowKind>
+    ensures { result ≡ row_kind_by number }
+{
+    RowKind::try_from(number).ok()
 }
 
 // Word i; past the end 0.
@@ -157,6 +169,13 @@ pub fn word(s: &[u8], i: usize) -> u32
         return 0;
     }
     words::word(s, 4 * i)
+}
+
+// Word i as a float.
+pub fn number(s: &[u8], i: usize) -> f32
+    ensures { result ≡ number_at s.now i }
+{
+    words::float(word(s, i))
 }
 
 // a >= b and a > b, of floats by their bits.

@@ -1,19 +1,12 @@
--- Laws of `tab` and `put_at`, over any element type: a loop that fills a list, one store a turn; parts put one after the other.
+-- Laws of `tab` and `put_at`, over any element type: a list of the values of a function; parts put one after the other.
 use mathlib.Core.Path.{◌≡◌, refl, sym, ap, ◌∙◌}
 use mathlib.Core.List.{List, [], ◌∷◌, ◌++◌, append-nil}
 use Prim.Native.Nat.{ℕ, zero, suc, ◌+◌, ◌<◌, ◌≤◌}
 use native.Mathlib.Nat.{add-zero, le_of_suc-le-suc}
-use native.Mathlib.Numerals.{add-one}
 use native.Mathlib.Omega.{arith}
-use lib.ListN.{length, set, get_or, take, drop, length-set, drop_of_length-le, take-append-drop}
-use lib.Seq.{take_all, take-suc-set, length-sets, sets-eq, set_out}
+use lib.ListN.{length, set, get_or, take, drop, drop_of_length-le, take-append-drop}
+use lib.Seq.{length-sets, sets-eq, set_out}
 use Rattle.words.specs.Lists.{tab, put_at}
-
--- `Filled n f l i`: l has n elements, and the first i are f 0, f 1, ..
-pub record Filled {A : Type 0} (n : ℕ) (f : ℕ → A) (l : List A) (i : ℕ) : Type 0 where
-  pub long : length l ≡ n
-  pub within : i ≤ n
-  pub front : take i l ≡ tab i f
 
 module _ {A : Type 0} where
   pub length_tab : (n : ℕ) (f : ℕ → A) → length (tab n f) ≡ n
@@ -34,34 +27,6 @@ module _ {A : Type 0} where
   tab_of zero f (x ∷ l) e h = absurd (omega (arith, e))
   tab_of (suc n) f [] e h = absurd (omega (arith, e))
   tab_of (suc n) f (x ∷ l) e h = rw (h 0 (omega arith), tab_of n (λ k. f (suc k)) l (omega (arith, e)) (λ i k. h (suc i) (omega (arith, k))))
-
-  -- functions that are the same below n
-  pub tab_same : (n : ℕ) (f g : ℕ → A) → ((i : ℕ) → i < n → f i ≡ g i) → tab n f ≡ tab n g
-  tab_same n f g h = tab_of n g (tab n f) (length_tab n f) (λ i k. get_d_tab n f i (g i) k ∙ h i k)
-
-  pub tab_snoc : (n : ℕ) (f : ℕ → A) → tab (suc n) f ≡ tab n f ++ (f n ∷ [])
-  unfolding tab
-  tab_snoc zero f = refl
-  tab_snoc (suc n) f = ap (λ (t : List A). f 0 ∷ t) (tab_snoc n (λ k. f (suc k)))
-
-  -- before the first turn
-  pub fill_none : (n : ℕ) (f : ℕ → A) (l : List A) → length l ≡ n → Filled n f l 0
-  unfolding tab
-  fill_none n f l e = record { long = e; within = omega arith; front = refl }
-
-  -- a turn that stores f i at i
-  pub fill_more : {n : ℕ} {f : ℕ → A} {l : List A} {i : ℕ} {v : A} → Filled n f l i → i < n → v ≡ f i → Filled n f (set l i v) (i + 1)
-  fill_more {n} {f} {l} {i} {v} was h e = record {
-    long = simp length-set was.long;
-    within = omega arith;
-    front = rw (add-one, take-suc-set l i v (omega (arith, was.long)), was.front, e) (sym (tab_snoc i f));
-  }
-
-  -- after the last turn
-  pub fill_all : {n : ℕ} {f : ℕ → A} {l : List A} {i : ℕ} → Filled n f l i → n ≤ i → l ≡ tab n f
-  fill_all {n} {f} {l} {i} was h =
-      let e : i ≡ n = omega (arith, was.within) in
-      sym (take_all i l (omega (arith, was.long))) ∙ was.front ∙ ap (λ (k : ℕ). tab k f) e
 
   pub length_put : (d : List A) (at : ℕ) (s : List A) → length (put_at d at s) ≡ length d
   unfolding put_at

@@ -12,7 +12,7 @@ use lib.ListN.{length, get_or, take}
 use lib.Seq.{take_all, take-suc, length-take-le, get_or-append-add}
 use lib.Ieee.{nan, binary32, to_bits}
 use Rattle.words.specs.Lists.{put_at}
-use Rattle.words.proofs.ListLaws.{length_put, put_put}
+use Rattle.words.proofs.ListLaws.{put_put}
 use Rattle.words.specs.Words.{word_at, bytes_of_word, bytes_of}
 
 -- worked: the word of 01 02 03 04; the bits of NaN
@@ -64,9 +64,6 @@ written_more {d} {at} {ws} {l} {l'} {i} {w} z was h e put = record {
 -- after the last turn
 pub written_all : {d : List ℕ} {at : ℕ} {ws l : List ℕ} {i : ℕ} → Written d at ws l i → length ws ≤ i → l ≡ put_at d at (bytes_of ws)
 written_all {d} {at} {ws} {l} {i} was h = was.same ∙ ap (λ (vs : List ℕ). put_at d at (bytes_of vs)) (take_all i ws h)
-
-pub written_long : {d : List ℕ} {at : ℕ} {ws l : List ℕ} {i : ℕ} → Written d at ws l i → length l ≡ length d
-written_long {d} {at} {ws} {l} {i} was = ap length was.same ∙ length_put d at (bytes_of (take i ws))
 
 -- a word of the second of two lists
 pub word_append : (s t : List ℕ) (at : ℕ) → word_at (s ++ t) (length s + at) ≡ word_at t at

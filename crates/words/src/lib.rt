@@ -31,7 +31,7 @@ pub fn word(s: &[u8], at: usize) -> u32
     }
 }
 
-// Writes the four bytes of `w` from `at`. One store where they are inside.
+// Writes the four bytes of `w` from `at`. One store where they are inside. Out and at stay apart: the bytes are lent, and hold more than words.
 pub fn put_word(out: &mut [u8], at: usize, w: u32)
     ensures { out.new ≡ put_at out.old at (bytes_of_word w) }
 {

@@ -1,11 +1,5 @@
-use Rattle.arith.proofs.Magnitude.{abs_below, abs_zero, abs_above}
+use Rattle.arith.proofs.Magnitude.{abs_lem}
 use Rattle.arith.proofs.abs.Goals as goal
 
-pub returns-then-x : goal.returns-then-x
-returns-then-x c = abs_below c.args.x c.if-x.true
-
-pub returns-then-x-2 : goal.returns-then-x-2
-returns-then-x-2 c = abs_zero c.args.x c.well_formed.0.1 c.if-x-2.true
-
-pub returns-else-x-2 : goal.returns-else-x-2
-returns-else-x-2 c = abs_above c.args.x c.if-x.false c.if-x-2.false
+pub returns : goal.returns
+returns c = cc (abs_lem c.args.x)

@@ -1,4 +1,3 @@
-use mathlib.Core.Path.{ap, ◌∙◌}
 use Prim.Native.Nat.{min}
 use borrow.Author.Rules.{rules}
 use Rattle.job.specs.Parts.{points}

@@ -1,10 +1,14 @@
 use Rattle.std.proofs.Common.{ℕ, sym, ap, ◌∙◌, Result}
+use Rattle.std.proofs.lemmas.Result.{err_from_is_err_and}
 use Rattle.limits.specs.declared.Refusal.{Refusal}
 use Rattle.findf.specs.Findf.{walked_with}
+use Rattle.findf.proofs.Accepted.{kept}
 use Rattle.findf.proofs.findf.Goals as goal
 
-pub returns-in-Ok : goal.returns-in-Ok
-returns-in-Ok c = ap (λ (a : Result ℕ Refusal). walked_with a c.findf_into.new.rfx) (sym c.in-Ok.is) ∙ c.findf_into.ensures
+pub returns-in_err-looks : goal.returns-in_err-looks
+returns-in_err-looks c =
+    let p = err_from_is_err_and c.from_residual.result c.from_residual.ensures.1 in
+    rw (p.1, p.2) (kept _ _ _ _ (ap (λ (a : Result ℕ Refusal). walked_with a c.findf_into.new.rfx) (sym c.in_err-looks.was) ∙ c.findf_into.ensures))
 
-pub returns-in-Err : goal.returns-in-Err
-returns-in-Err c = rw c.into.ensures (ap (λ (a : Result ℕ Refusal). walked_with a c.findf_into.new.rfx) (sym c.in-Err.is) ∙ c.findf_into.ensures)
+pub returns : goal.returns
+returns c = ap (λ (a : Result ℕ Refusal). walked_with a c.findf_into.new.rfx) (sym c.in_ok-looks.was) ∙ c.findf_into.ensures

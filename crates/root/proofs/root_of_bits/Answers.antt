@@ -53,26 +53,19 @@ module _ (c : After-take_apart-p) where
       sqrt_of_value (of_bits binary32 c.args.b) (s * 2 ^ e) (mul-pos (lt_of_lt_of_le (lit< tt) c.take_apart-p.ensures.leading) (pow_pos e)) c.take_apart-p.ensures.value
       ∙ root_of_lem (s * 2 ^ e) ((e - 23) / 2) w leading
 
-pub guess-requires : goal.guess-requires
-guess-requires c = (leading (goal.at.guess-requires c).After-take_apart-p).most
-
-pub nearest_root-r-requires-clause-fact_1 : goal.nearest_root-r-requires-clause-fact_1
-nearest_root-r-requires-clause-fact_1 c = positive (goal.at.nearest_root-r-requires-clause-fact_1 c).After-take_apart-p
-
-pub nearest_root-r-requires-clause-fact_2 : goal.nearest_root-r-requires-clause-fact_2
-nearest_root-r-requires-clause-fact_2 c = (leading (goal.at.nearest_root-r-requires-clause-fact_2 c).After-take_apart-p).most
-
-pub nearest_root-r-requires-clause-fact_3 : goal.nearest_root-r-requires-clause-fact_3
-nearest_root-r-requires-clause-fact_3 c = c.guess.ensures
+pub invariant_of-radicand : goal.invariant_of-radicand
+invariant_of-radicand c =
+    let p = (goal.at.invariant_of-radicand c).After-take_apart-p in
+    record { above_zero = positive p; digits = (leading p).most }
 
 pub put_together-requires-clause-fact_1 : goal.put_together-requires-clause-fact_1
-put_together-requires-clause-fact_1 c = rw c.nearest_root-r.ensures (in_range (goal.at.put_together-requires-clause-fact_1 c).After-take_apart-p).0
+put_together-requires-clause-fact_1 c = rw c.nearest_root.ensures (in_range (goal.at.put_together-requires-clause-fact_1 c).After-take_apart-p).0
 
 pub put_together-requires-clause-fact_2 : goal.put_together-requires-clause-fact_2
-put_together-requires-clause-fact_2 c = rw c.nearest_root-r.ensures (in_range (goal.at.put_together-requires-clause-fact_2 c).After-take_apart-p).1
+put_together-requires-clause-fact_2 c = rw c.nearest_root.ensures (in_range (goal.at.put_together-requires-clause-fact_2 c).After-take_apart-p).1
 
 pub put_together-requires-clause-fact_3 : goal.put_together-requires-clause-fact_3
 put_together-requires-clause-fact_3 c = omega (arith, c.take_apart-p.ensures.below)
 
 pub returns : goal.returns
-returns c = rw (c.put_together.ensures, c.nearest_root-r.ensures) (sym (meaning (goal.at.returns c).After-take_apart-p))
+returns c = rw (c.put_together.ensures, c.nearest_root.ensures) (sym (meaning (goal.at.returns c).After-take_apart-p))

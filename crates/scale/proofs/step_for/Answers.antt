@@ -1,26 +1,33 @@
-use Prim.Native.Nat.{◌*◌, ◌<◌}
-use mathlib.Core.Path.{subst}
-use native.Mathlib.Omega.{arith}
-use borrow.Author.Count.{below_more}
+use Rattle.std.proofs.Common.{rules, ◌≡◌, ℕ, ◌*◌, ◌<◌, ◌≤◌, List, map, sym, subst, ◌∙◌, arith}
+use Rattle.std.specs.List.{range_with_len, AllWithin, HoldsAt}
+use Rattle.std.specs.Option.{MatchOption}
+use Rattle.std.proofs.lemmas.Iterator.{first_from_find, YieldsList-from_slice}
+use borrow.Author.Tests.{tests}
 use Rattle.scale.specs.Scale.{step_at}
 use Rattle.scale.proofs.ScaleLaws.{steps_are}
 use Rattle.scale.proofs.step_for.Goals as goal
+use Rattle.scale.proofs.step_for.Goals.{After-find}
 
-pub returns-then-top-product-clause-least : goal.returns-then-top-product-clause-least
-unfolding step_at
-returns-then-top-product-clause-least c =
-    let k = c.loop-step.step-index in
-    record { k = k; is = steps_are k c.loop-step-test.true; reaches = omega (arith, c.if-top-product.true, c.product.ensures); least = c.loop-step.invariant }
+abbrev steps : List ℕ
+steps = map step_at (range_with_len 0 21)
 
-pub loop-step-preserved : goal.loop-step-preserved
+found : (c : After-find) → MatchOption c.find.result (AllWithin (λ s. c.args.most * s < c.args.top) steps 0 21) (λ x. (c.args.top ≤ c.args.most * x.now) × (i : ℕ) × (i < 21) × HoldsAt (λ y. y ≡ x.now) steps i × AllWithin (λ s. c.args.most * s < c.args.top) steps 0 i)
 unfolding step_at
-loop-step-preserved c =
-    let k = c.loop-step.step-index in
-    below_more (λ j. c.args.most * step_at j < c.args.top) k c.loop-step.invariant
-    (subst (λ s. c.args.most * s < c.args.top) (steps_are k c.loop-step-test.true) (omega (arith, c.if-top-product.false, c.product.ensures)))
+found c = first_from_find _ _ _ (λ s. c.args.top ≤ c.args.most * s) (λ s. c.args.most * s < c.args.top) c.find.ensures.ran (YieldsList-from_slice steps c.iter.ensures.rest) (λ x q k. search (rules, tests)) (λ x q k. search (rules, tests))
 
-pub returns-clause-least : goal.returns-clause-least
+pub returns-in-Some-clause-least : goal.returns-in-Some-clause-least
+returns-in-Some-clause-least c =
+    let h = rw c.in-Some.is at (found (goal.at.returns-in-Some-clause-least c).After-find) in
+    record {
+      k = h.1;
+      is = sym (h.3 0) ∙ steps_are h.1 h.2;
+      reaches = h.0;
+      least = λ j l. subst (λ s. c.args.most * s < c.args.top) (steps_are j (omega arith)) (h.4 j 0 (omega arith) l);
+    }
+
+pub returns-in-None-clause-least : goal.returns-in-None-clause-least
 unfolding step_at
-returns-clause-least c =
-    let short : c.args.most * 5000000 < c.args.top = c.loop-step.invariant 20 (omega arith) in
+returns-in-None-clause-least c =
+    let h = rw c.in-None.is at (found (goal.at.returns-in-None-clause-least c).After-find) in
+    let short : c.args.most * 5000000 < c.args.top = h 20 0 (omega arith) (omega arith) in
     absurd (omega arith)

@@ -1,4 +1,5 @@
+use mathlib.Core.Path.{◌∙◌}
 use Rattle.test_entries.proofs.ray_fdist.Goals as goal
 
 pub returns : goal.returns
-returns c = cc
+returns c = c.searched.ensures ∙ c.fdist.ensures c.args.m

@@ -1,15 +1,21 @@
-use native.Mathlib.Omega.{arith}
-use Rattle.allmodes.proofs.Held.{held_none, held_one, held_not}
+use Rattle.std.proofs.Common.{rules, ◌≡◌, refl, ap, ◌∙◌, ℕ, zero, suc, ◌-◌, List, length}
+use Rattle.std.specs.Prelude.{Float}
+use Rattle.std.specs.List.{filter, range_with_len}
+use Rattle.std.proofs.lemmas.Iterator.{YieldsList-from_range}
+use Rattle.std.proofs.lemmas.Iterator.Consumers.{YieldsList-at, YieldsList-from_filter, count_from_yields_List}
+use native.Mathlib.Numerals.{add-one}
+use Rattle.allmodes.specs.AllModes.{holds, held}
 use Rattle.allmodes.proofs.Zon.held_count.Goals as goal
-use Rattle.allmodes.proofs.Zon.held_count.Goals.{then-self-i, else-self-i}
 
-pub loop-i-preserved : goal.loop-i-preserved
-loop-i-preserved c =
-    let l = c.loop-i.invariant in
-    elim c.if-self-i.branch [
-      | then-self-i w ↦ (omega (arith, w.n-is, l.0), omega (arith, w.n-is, rw (held_one _ c.loop-i-test.true w.if-self-i.true) at l.1))
-      | else-self-i w ↦ (omega (arith, w.n-is, l.0), omega (arith, w.n-is, rw (held_not _ c.loop-i-test.true w.if-self-i.false) at l.1))
-    ]
+filtered : (hp : List Float) (i n : ℕ) → filter (holds hp) (range_with_len i n) ≡ held hp i n
+unfolding held
+filtered hp i zero = refl
+filtered hp i (suc n) = rw (add-one i, filtered hp (suc i) n) refl
 
 pub returns : goal.returns
-returns c = omega (arith, rw (held_none _ c.loop-i-test.false) at c.loop-i.invariant.1)
+returns c =
+    let hp = c.args.self.now.hp in
+    let m = c.args.from in
+    let n = c.args.to - c.args.from in
+    count_from_yields_List c.filter.result c.count.result c.count.ensures.ran (YieldsList-from_filter _ (holds hp) (YieldsList-at c.filter.ensures.source (YieldsList-from_range m c.args.to n refl refl)) c.filter.ensures.closure (λ x b q k. search rules))
+    ∙ ap length (filtered hp m n)

@@ -13,17 +13,11 @@ test c = cc lit_1
 taken : (c : Then-is_within) → within one32 c.args.x ≡ true
 taken c = cc (lit_1, c.if-is_within.true)
 
-pub scaled_by-requires-clause-fact_1 : goal.scaled_by-requires-clause-fact_1
-scaled_by-requires-clause-fact_1 c = (scaled_asked 0 57 (lit≤ tt) c.args.x (taken (goal.at.scaled_by-requires-clause-fact_1 c).Then-is_within)).0
+pub scaled_by-requires : goal.scaled_by-requires
+scaled_by-requires c = let a = scaled_asked 0 57 (lit≤ tt) c.args.x (taken (goal.at.scaled_by-requires c).Then-is_within) in record { fact_1 = a.0; fact_2 = a.1.0; fact_3 = a.1.1 }
 
-pub scaled_by-requires-clause-fact_2 : goal.scaled_by-requires-clause-fact_2
-scaled_by-requires-clause-fact_2 c = ((scaled_asked 0 57 (lit≤ tt) c.args.x (taken (goal.at.scaled_by-requires-clause-fact_2 c).Then-is_within)).1).0
-
-pub scaled_by-requires-clause-fact_3 : goal.scaled_by-requires-clause-fact_3
-scaled_by-requires-clause-fact_3 c = ((scaled_asked 0 57 (lit≤ tt) c.args.x (taken (goal.at.scaled_by-requires-clause-fact_3 c).Then-is_within)).1).1
-
-pub guess-requires : goal.guess-requires
-guess-requires c = let x = c.args.x in finite_number x (within_finite 0 x (taken (goal.at.guess-requires c).Then-is_within))
+pub magnitude-requires : goal.magnitude-requires
+magnitude-requires c = let x = c.args.x in finite_number x (within_finite 0 x (taken (goal.at.magnitude-requires c).Then-is_within))
 
 pub steps-requires : goal.steps-requires
 steps-requires c = subst (λ (n : ℕ). n ≤ 2 ^ 57) (sym c.scaled_by.ensures) (scaled_le 0 57 c.args.x (taken (goal.at.steps-requires c).Then-is_within))

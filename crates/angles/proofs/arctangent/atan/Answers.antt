@@ -18,8 +18,8 @@ self (fin false m e) = rw (eq-eqb (m * up e * down e) (m * up e * down e) refl)
 is_number : (c : Then-x) → is_nan c.args.x ≡ false
 is_number c = self c.args.x ∙ ap not c.if-x.true
 
-pub guess-requires : goal.guess-requires
-guess-requires c = subst (λ (b : Bool). T (not b)) (sym (is_number (goal.at.guess-requires c).Then-x)) tt
+pub magnitude-requires : goal.magnitude-requires
+magnitude-requires c = subst (λ (b : Bool). T (not b)) (sym (is_number (goal.at.magnitude-requires c).Then-x)) tt
 
 pub in_steps-requires : goal.in_steps-requires
 in_steps-requires c = subst (λ (k : ℕ). k ≤ 2 ^ 24) (sym c.steps.ensures) (le_trans (steps_within c.units.result) (lit≤ tt))

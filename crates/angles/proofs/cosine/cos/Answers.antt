@@ -16,23 +16,17 @@ taken c = cc (lit_4, c.if-is_within.true)
 n_le : (c : After-scaled_by) → c.scaled_by.result ≤ 2 ^ 63
 n_le c = subst (λ (n : ℕ). n ≤ 2 ^ 63) (sym c.scaled_by.ensures) (scaled_le 2 61 c.args.x (cc (lit_4, c.if-is_within.true)))
 
-pub scaled_by-requires-clause-fact_1 : goal.scaled_by-requires-clause-fact_1
-scaled_by-requires-clause-fact_1 c = (scaled_asked 2 61 (lit≤ tt) c.args.x (taken (goal.at.scaled_by-requires-clause-fact_1 c).Then-is_within)).0
-
-pub scaled_by-requires-clause-fact_2 : goal.scaled_by-requires-clause-fact_2
-scaled_by-requires-clause-fact_2 c = ((scaled_asked 2 61 (lit≤ tt) c.args.x (taken (goal.at.scaled_by-requires-clause-fact_2 c).Then-is_within)).1).0
-
-pub scaled_by-requires-clause-fact_3 : goal.scaled_by-requires-clause-fact_3
-scaled_by-requires-clause-fact_3 c = ((scaled_asked 2 61 (lit≤ tt) c.args.x (taken (goal.at.scaled_by-requires-clause-fact_3 c).Then-is_within)).1).1
+pub scaled_by-requires : goal.scaled_by-requires
+scaled_by-requires c = let a = scaled_asked 2 61 (lit≤ tt) c.args.x (taken (goal.at.scaled_by-requires c).Then-is_within) in record { fact_1 = a.0; fact_2 = a.1.0; fact_3 = a.1.1 }
 
 pub cos_parts-p-requires : goal.cos_parts-p-requires
 cos_parts-p-requires c = n_le (goal.at.cos_parts-p-requires c).After-scaled_by
 
-pub difference_of-requires-clause-fact_1 : goal.difference_of-requires-clause-fact_1
-difference_of-requires-clause-fact_1 c = (let p = c.cos_parts-p in differ_wide p.result.plus p.result.minus (rw (p.ensures.0.0, p.ensures.0.1) (cos_differ c.scaled_by.result (n_le (goal.at.difference_of-requires-clause-fact_1 c).After-scaled_by)))).0
-
-pub difference_of-requires-clause-fact_2 : goal.difference_of-requires-clause-fact_2
-difference_of-requires-clause-fact_2 c = (let p = c.cos_parts-p in differ_wide p.result.plus p.result.minus (rw (p.ensures.0.0, p.ensures.0.1) (cos_differ c.scaled_by.result (n_le (goal.at.difference_of-requires-clause-fact_2 c).After-scaled_by)))).1
+pub difference_of-requires : goal.difference_of-requires
+difference_of-requires c =
+    let p = c.cos_parts-p in
+    let d = differ_wide p.result.plus p.result.minus (rw (p.ensures.0.0, p.ensures.0.1) (cos_differ c.scaled_by.result (n_le (goal.at.difference_of-requires c).After-scaled_by))) in
+    record { fact_1 = d.0; fact_2 = d.1 }
 
 pub returns-then-is_within : goal.returns-then-is_within
 unfolding cos_of

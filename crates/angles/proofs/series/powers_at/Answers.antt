@@ -19,5 +19,8 @@ overflow_mul-result c = record { fits = lt_of_le_of_lt (subst (λ (v : ℕ). v �
 pub overflow_mul-result-2 : goal.overflow_mul-result-2
 overflow_mul-result-2 c = record { fits = lt_of_le_of_lt (fourth_le (goal.at.overflow_mul-result-2 c).After-high_product-2) (lit< tt) }
 
+pub invariant_of-result : goal.invariant_of-result
+invariant_of-result c = record { fourth_bound = fourth_le (goal.at.invariant_of-result c).After-high_product-2 }
+
 pub returns : goal.returns
-returns c = ((c.high_product-z.ensures, (third_is (goal.at.returns c).After-high_product, fourth_is (goal.at.returns c).After-high_product-2)), fourth_le (goal.at.returns c).After-high_product-2)
+returns c = (c.high_product-z.ensures, (third_is (goal.at.returns c).After-high_product, fourth_is (goal.at.returns c).After-high_product-2))

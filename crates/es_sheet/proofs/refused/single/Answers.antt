@@ -1,25 +1,31 @@
+use Rattle.std.proofs.Common.{rules, ◌≡◌, false, eqb}
+use Rattle.std.proofs.lemmas.Bool.Decides.{nat_tests}
 use Rattle.decimal.proofs.PageLaws.{added_as}
 use Rattle.words.specs.Lists.{tab}
-use borrow.Author.Tests.{eq-eqb, ne_eqb}
 use Rattle.es_sheet.specs.Refusal.{single_text}
 use Rattle.es_sheet.proofs.refused.single.Goals as goal
 
-pub returns-then-i-eq-GCD : goal.returns-then-i-eq-GCD
+pub returns-in-21 : goal.returns-in-21
 unfolding tab single_text
-returns-then-i-eq-GCD c = added_as _ (rw (eq-eqb c.args.i 21 c.if-i-eq-GCD.true)) c.filled.ensures
+returns-in-21 c = added_as _ (rw c.in-21.is) c.filled.ensures
 
-pub returns-then-i-eq-GCDKM : goal.returns-then-i-eq-GCDKM
+pub returns-in-22 : goal.returns-in-22
 unfolding tab single_text
-returns-then-i-eq-GCDKM c = added_as _ (rw (ne_eqb c.args.i 21 c.if-i-eq-GCD.false, eq-eqb c.args.i 22 c.if-i-eq-GCDKM.true)) c.filled-then-i-eq-GCDKM.ensures
+returns-in-22 c = added_as _ (rw c.in-22.is) c.filled-in-22.ensures
 
-pub returns-then-i-eq-AMIND : goal.returns-then-i-eq-AMIND
+pub returns-in-23 : goal.returns-in-23
 unfolding tab single_text
-returns-then-i-eq-AMIND c = added_as _ (rw (ne_eqb c.args.i 21 c.if-i-eq-GCD.false, ne_eqb c.args.i 22 c.if-i-eq-GCDKM.false, eq-eqb c.args.i 23 c.if-i-eq-AMIND.true)) c.filled-then-i-eq-AMIND.ensures
+returns-in-23 c = added_as _ (rw c.in-23.is) c.filled-in-23.ensures
 
-pub returns-then-i-eq-FREQ : goal.returns-then-i-eq-FREQ
+pub returns-in-24 : goal.returns-in-24
 unfolding tab single_text
-returns-then-i-eq-FREQ c = added_as _ (rw (ne_eqb c.args.i 21 c.if-i-eq-GCD.false, ne_eqb c.args.i 22 c.if-i-eq-GCDKM.false, ne_eqb c.args.i 23 c.if-i-eq-AMIND.false, eq-eqb c.args.i 24 c.if-i-eq-FREQ.true)) c.filled-then-i-eq-FREQ.ensures
+returns-in-24 c = added_as _ (rw c.in-24.is) c.filled-in-24.ensures
 
-pub returns-else-i-eq-FREQ : goal.returns-else-i-eq-FREQ
+pub returns-in_default : goal.returns-in_default
 unfolding tab single_text
-returns-else-i-eq-FREQ c = added_as _ (rw (ne_eqb c.args.i 21 c.if-i-eq-GCD.false, ne_eqb c.args.i 22 c.if-i-eq-GCDKM.false, ne_eqb c.args.i 23 c.if-i-eq-AMIND.false, ne_eqb c.args.i 24 c.if-i-eq-FREQ.false)) c.filled-else-i-eq-FREQ.ensures
+returns-in_default c =
+    let gcd : eqb c.args.i 21 ≡ false = search (rules, nat_tests) in
+    let gcdkm : eqb c.args.i 22 ≡ false = search (rules, nat_tests) in
+    let amind : eqb c.args.i 23 ≡ false = search (rules, nat_tests) in
+    let freq : eqb c.args.i 24 ≡ false = search (rules, nat_tests) in
+    added_as _ (rw (gcd, gcdkm, amind, freq)) c.filled-in_default.ensures

@@ -1,21 +1,33 @@
+use Rattle.std.proofs.Common.{rules, ◌≡◌, true, false, eqb, ltb}
+use Rattle.std.proofs.lemmas.Bool.Decides.{nat_tests}
 use Rattle.decimal.proofs.PageLaws.{added_as}
 use Rattle.words.specs.Lists.{tab}
-use borrow.Author.Tests.{eq-eqb, ne_eqb, lt-ltb, le-ltb}
 use Rattle.es_sheet.specs.Refusal.{word_text}
 use Rattle.es_sheet.proofs.refused.word_line.Goals as goal
 
-pub returns-then-i-eq-KM : goal.returns-then-i-eq-KM
+pub returns-in-0 : goal.returns-in-0
 unfolding tab word_text
-returns-then-i-eq-KM c = added_as _ (rw (eq-eqb c.args.i 0 c.if-i-eq-KM.true)) c.filled.ensures
+returns-in-0 c = added_as _ (rw c.in-0.is) c.filled.ensures
 
-pub returns-then-i-lt-HS : goal.returns-then-i-lt-HS
+pub returns-in-1-to-15 : goal.returns-in-1-to-15
 unfolding tab word_text
-returns-then-i-lt-HS c = added_as _ (rw (ne_eqb c.args.i 0 c.if-i-eq-KM.false, lt-ltb c.args.i 16 c.if-i-lt-HS.true)) c.filled-then-i-lt-HS.ensures
+returns-in-1-to-15 c =
+    let km : eqb c.args.i 0 ≡ false = search (rules, nat_tests) in
+    let fs : ltb c.args.i 16 ≡ true = search (rules, nat_tests) in
+    added_as _ (rw (km, fs)) c.filled-in-1-to-15.ensures
 
-pub returns-then-i-lt-GCD : goal.returns-then-i-lt-GCD
+pub returns-in-16-to-20 : goal.returns-in-16-to-20
 unfolding tab word_text
-returns-then-i-lt-GCD c = added_as _ (rw (ne_eqb c.args.i 0 c.if-i-eq-KM.false, le-ltb c.args.i 16 c.if-i-lt-HS.false, lt-ltb c.args.i 21 c.if-i-lt-GCD.true)) c.filled-then-i-lt-GCD.ensures
+returns-in-16-to-20 c =
+    let km : eqb c.args.i 0 ≡ false = search (rules, nat_tests) in
+    let fs : ltb c.args.i 16 ≡ false = search (rules, nat_tests) in
+    let hs : ltb c.args.i 21 ≡ true = search (rules, nat_tests) in
+    added_as _ (rw (km, fs, hs)) c.filled-in-16-to-20.ensures
 
-pub returns-else-i-lt-GCD : goal.returns-else-i-lt-GCD
+pub returns-in_default : goal.returns-in_default
 unfolding tab word_text
-returns-else-i-lt-GCD c = added_as _ (rw (ne_eqb c.args.i 0 c.if-i-eq-KM.false, le-ltb c.args.i 16 c.if-i-lt-HS.false, le-ltb c.args.i 21 c.if-i-lt-GCD.false)) c.single.ensures
+returns-in_default c =
+    let km : eqb c.args.i 0 ≡ false = search (rules, nat_tests) in
+    let fs : ltb c.args.i 16 ≡ false = search (rules, nat_tests) in
+    let hs : ltb c.args.i 21 ≡ false = search (rules, nat_tests) in
+    added_as _ (rw (km, fs, hs)) c.single.ensures

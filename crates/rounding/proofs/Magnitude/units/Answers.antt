@@ -1,10 +1,10 @@
 use borrow.Author.Tests.{lt-ltb, le-ltb}
 use Prim.Native.Nat.{ℕ, ◌+◌, ◌-◌, ◌*◌, ◌/◌, ◌%◌, ◌^◌, ◌≤◌, ◌<◌}
-use mathlib.Core.Path.{◌≡◌, sym, ap, ◌∙◌, subst}
+use mathlib.Core.Path.{◌≡◌, sym, ap, ◌∙◌}
 use mathlib.Core.Bool.{Bool, cond}
 use native.Mathlib.Omega.{arith}
 use native.Mathlib.Nat.{mod-eq_of_lt, div-eq_of_lt, mul-le-mul, lt_of_le_of_lt, lt_of_lt_of_le, one-mul}
-use lib.Pow.{pow_mono, pow-lt, shl_exact}
+use lib.Pow.{pow_mono, pow_pos, shl_exact}
 use lib.Dec.{ltb}
 use Rattle.rounding.specs.Decimals.{nearest}
 use Rattle.rounding.proofs.Magnitude.units.Goals as goal
@@ -23,9 +23,6 @@ none n p h =
     ∙ ap (λ (q : ℕ). cond (ltb p (2 * n + q % 2)) (q + 1) q) (div-eq_of_lt {n = n} {m = p} (omega arith))
     ∙ ap (λ (b : Bool). cond b (0 + 1) 0) (le-ltb p (2 * n + 0 % 2) (omega arith))
 
-pub nearest-requires-clause-p_bound : goal.nearest-requires-clause-p_bound
-nearest-requires-clause-p_bound c = subst (λ (x : ℕ). x < 2 ^ 60) (sym (bit c.args.self.field c.if-self-lt100.false)) (pow-lt {i = 150 - c.args.self.field} {j = 60} (omega arith))
-
 pub returns-then-self-lt100 : goal.returns-then-self-lt100
 returns-then-self-lt100 c =
     let a = c.args in
@@ -37,7 +34,8 @@ returns-then-self-lt100 c =
 pub returns-then-self-lt150 : goal.returns-then-self-lt150
 returns-then-self-lt150 c =
     let a = c.args in
-    rw (lt-ltb a.self.field 150 c.if-self-lt150.true) (c.nearest.ensures ∙ ap (nearest (a.self.significand * a.t)) (bit a.self.field c.if-self-lt100.false))
+    let shifted = bit a.self.field c.if-self-lt100.false in
+    rw (lt-ltb a.self.field 150 c.if-self-lt150.true) (c.nearest.ensures.value (rw shifted (pow_pos (150 - a.self.field))) ∙ ap (nearest (a.self.significand * a.t)) shifted)
 
 pub returns-else-self-lt150 : goal.returns-else-self-lt150
 returns-else-self-lt150 c =

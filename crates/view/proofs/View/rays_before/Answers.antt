@@ -1,16 +1,17 @@
-use Rattle.std.proofs.Common.{◌≡◌, ◌∙◌, ap, refl, arith, rules}
-use Rattle.view.specs.View.{rays_before}
-use Rattle.view.proofs.ViewLaws.{rays_next}
+use Rattle.std.proofs.Common.{◌∙◌, ap, refl, rules, tests, arith}
+use Rattle.std.specs.List.{range_with_len}
+use Rattle.std.proofs.lemmas.Iterator.{YieldsList-from_range}
+use Rattle.std.proofs.lemmas.Iterator.Consumers.{YieldsList-at, YieldsList-from_filter, count_from_yields_List}
+use Rattle.std.proofs.lemmas.List.Sums.{length-filter}
+use Rattle.view.specs.View.{rays_before, ray_at}
+use Rattle.view.proofs.ViewLaws.{rays_counted}
 use Rattle.view.proofs.View.rays_before.Goals as goal
 
-pub loop-s-init : goal.loop-s-init
-unfolding rays_before
-loop-s-init c = record { few = omega arith; counted = refl }
-
-pub loop-s-preserved : goal.loop-s-preserved
-loop-s-preserved c = record { few = search rules; counted = rays_next _ _ _ _ _ _ c.loop-s.invariant.counted c.is_ray.ensures c.from-k.ensures }
-
-pub returns : goal.returns
-returns c =
-    let last : c.loop-s.s ≡ c.min-s-end.result = omega arith in
-    record { value = c.loop-s.invariant.counted ∙ ap (rays_before _ _) (last ∙ c.min-s-end.ensures); upper_bound = search rules }
+pub returns-clause-value : goal.returns-clause-value
+returns-clause-value c =
+    let is_ray = ray_at c.args.self.job.now c.args.self.answer.now in
+    let slots = YieldsList-at c.filter.ensures.source (YieldsList-from_range 0 c.min.result c.min.result refl (omega arith)) in
+    count_from_yields_List c.filter.result _ c.count.ensures.ran (YieldsList-from_filter _ is_ray slots c.filter.ensures.closure (λ x b q k. search (rules, tests)))
+    ∙ length-filter is_ray (range_with_len 0 c.min.result)
+    ∙ rays_counted _ _ _
+    ∙ ap (rays_before _ _) c.min.ensures

@@ -4,10 +4,6 @@ use Rattle.angles.specs.Arctangent.{atan_low, atan_high}
 use Rattle.angles.proofs.arctangent.TangentArc.sides.Goals as goal
 use Rattle.angles.proofs.arctangent.TangentArc.sides.Goals.{After-high_product-down, After-high_product-up}
 
-down_le : (c : After-high_product-down) → c.high_product-down.result ≤ 2 ^ 62
-down_le c =
-    subst (λ (x : ℕ). x ≤ 2 ^ 62) (sym c.high_product-down.ensures) (mh_under c.args.t c.cos_parts-c.result.minus (2 ^ 63) (2 ^ 63) (2 ^ 62) c.requires.argument c.cos_parts-c.ensures.1.1 (lit≤ tt))
-
 up_le : (c : After-high_product-up) → c.high_product-up.result ≤ 2 ^ 62 + 2 ^ 56
 up_le c =
     subst (λ (x : ℕ). x ≤ 2 ^ 62 + 2 ^ 56) (sym c.high_product-up.ensures) (mh_under c.args.t c.cos_parts-c.result.plus (2 ^ 63) (2 ^ 57 + 2 ^ 63) (2 ^ 62 + 2 ^ 56) c.requires.argument c.cos_parts-c.ensures.1.0 (lit≤ tt))
@@ -30,9 +26,6 @@ first_fits a b h = omega arith
 
 fits : {a : ℕ} → a ≤ 2 ^ 63 → a < 2 ^ 64
 fits h = omega arith
-
-wider : {a : ℕ} → a ≤ 2 ^ 63 → a ≤ 2 ^ 63 + 2 ^ 62
-wider h = omega arith
 
 pub overflow_add-result : goal.overflow_add-result
 overflow_add-result c = record { fits = first_fits (c.sin_parts-s.result.plus / 2 ^ 24) c.high_product-down.result (low_at (goal.at.overflow_add-result c).After-high_product-up 0 (lit≤ tt)) }

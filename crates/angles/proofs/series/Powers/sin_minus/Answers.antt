@@ -1,0 +1,6 @@
+use Rattle.angles.specs.Requires.{over}
+use Rattle.angles.proofs.series.Powers.sin_minus.Goals as goal
+
+pub returns : goal.returns
+unfolding over
+returns c = cc

@@ -1,6 +1,0 @@
-use Rattle.angles.specs.Series.{cos_minus, fixed}
-use Rattle.angles.proofs.series.cos_minus.Goals as goal
-
-pub returns : goal.returns
-unfolding cos_minus fixed
-returns c = cc

@@ -1,6 +1,0 @@
-use Rattle.angles.specs.Series.{cos_plus, fixed}
-use Rattle.angles.proofs.series.cos_plus.Goals as goal
-
-pub returns : goal.returns
-unfolding cos_plus fixed
-returns c = cc

@@ -1,6 +1,0 @@
-use Rattle.angles.specs.Requires.{over}
-use Rattle.angles.proofs.series.sin_minus.Goals as goal
-
-pub returns : goal.returns
-unfolding over
-returns c = cc

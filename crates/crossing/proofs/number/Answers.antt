@@ -1,6 +1,0 @@
-use mathlib.Core.Path.{ap, ◌∙◌}
-use Rattle.arith.specs.Floats.{f32}
-use Rattle.crossing.proofs.number.Goals as goal
-
-pub returns : goal.returns
-returns c = c.float.ensures ∙ ap f32 c.word.ensures

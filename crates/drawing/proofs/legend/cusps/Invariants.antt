@@ -1,0 +1,5 @@
+use Rattle.decimal.specs.Page.{Extends}
+use Rattle.drawing.proofs.legend.cusps.Given as goal
+
+abbrev pub invariant-loop-layer : goal.invariant-loop-layer
+invariant-loop-layer l = Extends l.fn.page l.page
