@@ -133,10 +133,11 @@ fn outline(layer: Layer, x: u32, y: u32, page: &mut Page)
     }
 }
 
-// A layer's mark at a place.
-pub fn mark(layer: Layer, x: u32, y: u32, hollow: bool, page: &mut Page)
+// A layer's mark at a place, by the layer's number.
+pub fn mark(n: u32, x: u32, y: u32, hollow: bool, page: &mut Page)
     ensures { Extends page.old page.new }
 {
+    let layer = Layer::from(n);
     outline(layer, x, y, page);
     if hollow {
         page.text(b"fill=\"#fff\" stroke=\"");
@@ -159,7 +160,7 @@ fn row_mark(row: Row, ends: Ends, page: &mut Page)
 {
     if row.drawn() {
         let [x, y] = places(row, ends);
-        mark(row.layer().into(), x, y, hollow(row), page);
+        mark(row.layer(), x, y, hollow(row), page);
         page.text(b"\n");
     }
 }

@@ -5,7 +5,9 @@ use native.Mathlib.Nat.{sub-zero}
 use Rattle.std.proofs.Math.Seq.{drop-append_seam, take-append-add}
 use lib.Seq.{drop-length, take-suc, take_all}
 use Rattle.std.proofs.lemmas.List.{drop-drop, length-drop, take_more_set, drop-set-lt, drop_all, drop-append-le, take-append-drop, take-take}
-use Rattle.decimal.specs.Page.{Written, added, shortened, Used, used, more, Extends}
+use Rattle.words.specs.Lists.{put_at}
+use Rattle.words.proofs.ListLaws.{put_inside, put_whole, put_cut}
+use Rattle.decimal.specs.Page.{Written, blank, bytes_of, added, shortened, Used, used, more, Extends}
 
 take_none : (n : ℕ) → take {A = ℕ} n [] ≡ []
 take_none zero = refl
@@ -91,6 +93,7 @@ cut_more u m q n e h =
     let w = take k (take u.room m) in
     let text : q.text ≡ u.text ++ take u.room m = ap (λ (v : Used). v.text) e in
     let left : length q.rest ≡ u.room - length m = ap (λ (v : Used). v.room) e in
+    let loan : q.loan ≡ u.loan = ap (λ (v : Used). v.loan) e in
     let long : length (take u.room m) ≡ min u.room (length m) = length-take u.room m in
     let kept : length w ≡ min k (length (take u.room m)) = length-take k (take u.room m) in
     let both : length (u.text ++ take u.room m) ≡ length u.text + length (take u.room m) = length-append u.text (take u.room m) in
@@ -99,7 +102,7 @@ cut_more u m q n e h =
     let fits : take u.room w ≡ w = take_all u.room w (omega (arith, long, kept)) in
     let behind : length (drop n (u.text ++ take u.room m) ++ q.rest) ≡ u.room - length w =
     length-append (drop n (u.text ++ take u.room m)) q.rest ∙ omega (arith, length-drop n (u.text ++ take u.room m), left, long, kept, both) in
-    rw (text, fits, cut, behind) refl
+    rw (text, fits, cut, behind, loan) refl
 
 used_text : (p : Written) → (used p).text ≡ p.text
 unfolding used
@@ -114,35 +117,67 @@ extends_shortened p q n a h =
 
 -- ---- by the lent bytes and how many of them are written
 
-abbrev pub page_of : List ℕ → ℕ → Written
-page_of bytes end = record { text = take end bytes; rest = drop end bytes }
+abbrev pub page_of : List ℕ → ℕ → ℕ → Written
+page_of bytes end loan = record { text = take end bytes; rest = drop end bytes; loan = loan }
 
 -- for `put`
-pub put_one : (bytes : List ℕ) (end b : ℕ) → end < length bytes → page_of (set bytes end b) (end + 1) ≡ added (page_of bytes end) (b ∷ [])
+pub put_one : (bytes : List ℕ) (end b loan : ℕ) → end < length bytes → page_of (set bytes end b) (end + 1) loan ≡ added (page_of bytes end loan) (b ∷ [])
 unfolding added
-put_one bytes end b h =
+put_one bytes end b loan h =
     let room : length (drop end bytes) ≡ suc (length bytes - end - 1) = length-drop end bytes ∙ omega (arith, h) in
     let one : take (suc (length bytes - end - 1)) (b ∷ []) ≡ b ∷ [] = ap (λ (l : List ℕ). b ∷ l) (take_none (length bytes - end - 1)) in
     rw (take_more_set bytes end b h, drop-set-lt (end + 1) bytes end b (omega arith), room, one, drop-drop) refl
 
 -- for `truncate`
-pub cut_back : (bytes : List ℕ) (end n : ℕ) → end ≤ length bytes → page_of bytes (min end n) ≡ shortened (page_of bytes end) n
+pub cut_back : (bytes : List ℕ) (end n loan : ℕ) → end ≤ length bytes → page_of bytes (min end n) loan ≡ shortened (page_of bytes end loan) n
 unfolding shortened
-cut_back bytes end n h = by (leb n end) refl
+cut_back bytes end n loan h = by (leb n end) refl
   where
     long : length (take end bytes) ≡ end
     long = length-take end bytes ∙ omega (arith, h)
 
-    few : n ≤ end → page_of bytes (min end n) ≡ record { text = take n (take end bytes); rest = drop n (take end bytes) ++ drop end bytes }
+    few : n ≤ end → page_of bytes (min end n) loan ≡ record { text = take n (take end bytes); rest = drop n (take end bytes) ++ drop end bytes; loan = loan }
     few l =
         let m : min end n ≡ n = omega (arith, l) in
         rw (m, ← drop-append-le n (take end bytes) (drop end bytes) (rw long l), take-append-drop, take-take n end bytes l) refl
 
-    all : end < n → page_of bytes (min end n) ≡ record { text = take n (take end bytes); rest = drop n (take end bytes) ++ drop end bytes }
+    all : end < n → page_of bytes (min end n) loan ≡ record { text = take n (take end bytes); rest = drop n (take end bytes) ++ drop end bytes; loan = loan }
     all l =
         let m : min end n ≡ end = omega (arith, l) in
         rw (m, take_all n (take end bytes) (omega (arith, long, l)), drop_all n (take end bytes) (omega (arith, long, l))) refl
 
-    by : (b : Bool) → leb n end ≡ b → page_of bytes (min end n) ≡ record { text = take n (take end bytes); rest = drop n (take end bytes) ++ drop end bytes }
+    by : (b : Bool) → leb n end ≡ b → page_of bytes (min end n) loan ≡ record { text = take n (take end bytes); rest = drop n (take end bytes) ++ drop end bytes; loan = loan }
     by true e = few (leb-true n end e)
     by false e = all (leb-false n end e)
+
+-- ---- the lent bytes when the page is given back
+
+-- a text on new bytes: it stands in them from the first on, as far as it fits, and no other byte has changed
+pub given_back : (bytes : List ℕ) (loan : ℕ) (s : List ℕ) → bytes_of (added (blank bytes loan) s) ≡ put_at bytes 0 s
+unfolding added
+given_back d loan s = by (leb (length s) (length d)) refl
+  where
+    fits : length s ≤ length d → take (length d) s ++ drop (length s) d ≡ put_at d 0 s
+    fits h =
+        let first : put_at d 0 s ≡ s ++ drop (0 + length s) d = put_inside d 0 s (omega (arith, h)) in
+        let place : 0 + length s ≡ length s = omega arith in
+        rw (take_all (length d) s h, first, place) refl
+
+    cut : length d < length s → take (length d) s ++ drop (length s) d ≡ put_at d 0 s
+    cut h =
+        let long : length (take (length d) s) ≡ length d = length-take (length d) s ∙ omega (arith, h) in
+        rw (drop_all (length s) d (omega (arith, h)), append-nil) (sym (put_whole d (take (length d) s) long) ∙ sym (put_cut d 0 (length d) s (omega (arith, long))))
+
+    by : (b : Bool) → leb (length s) (length d) ≡ b → take (length d) s ++ drop (length s) d ≡ put_at d 0 s
+    by true e = fits (leb-true (length s) (length d) e)
+    by false e = cut (leb-false (length s) (length d) e)
+
+-- whose bytes they are
+module _ (p : Written) where
+  pub loan_added : (s : List ℕ) → (added p s).loan ≡ p.loan
+  unfolding added
+  loan_added s = refl
+
+  pub loan_shortened : (n : ℕ) → (shortened p n).loan ≡ p.loan
+  unfolding shortened
+  loan_shortened n = refl

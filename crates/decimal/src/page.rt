@@ -3,7 +3,7 @@
 
 ghost use Rattle.std.specs.Prelude.{◌≡◌, [], ◌∷◌, replicate};
 ghost use Rattle.rounding.specs.Decimals.{right_in};
-ghost use Rattle.decimal.specs.Page.{added, blank, shortened};
+ghost use Rattle.decimal.specs.Page.{added, blank, bytes_of, shortened};
 
 use std::marker::Model;
 
@@ -19,14 +19,14 @@ impl<'a> Model for Page<'a> {
 
     ghost Value = { Written };
 
-    ghost view = { λ p. record { text = take p.end p.bytes.now; rest = drop p.end p.bytes.now } };
+    ghost view = { λ p. record { text = take p.end p.bytes.now; rest = drop p.end p.bytes.now; loan = p.bytes.ghost_name } };
 
     ghost invariant = { λ p. p.end ≤ length p.bytes.now };
 }
 
 impl<'a> Page<'a> {
     pub fn new(bytes: &'a mut [u8]) -> Page<'a>
-        ensures { result ≡ blank bytes.old }
+        ensures { result ≡ blank bytes.old bytes.entry.ghost_name }
     {
         Page { bytes, end: 0 }
     }
@@ -35,6 +35,15 @@ impl<'a> Page<'a> {
         ensures { result.now ≡ self.now.text }
     {
         &self.bytes[..self.end]
+    }
+
+    // The lent bytes back: what is written, and those behind it as they were.
+    pub fn into_bytes(self) -> &'a mut [u8]
+        ensures loan { result.ghost_name ≡ self.entry.loan }
+        ensures bytes { result.now ≡ bytes_of self.entry }
+    {
+        let Page { bytes, .. } = self;
+        bytes
     }
 
     #[tactic(auto, unfolding(crate::specs::Page::added))]

@@ -20,9 +20,9 @@ fn counted(n: u32, one: &[u8], more: &[u8], page: &mut Page)
 fn row(view: View, layer: Layer, y: u32, foot: u32, page: &mut Page)
     ensures { Extends page.old page.new }
 {
-    curve::mark(layer, 6700, y, false, page);
+    curve::mark(layer.into(), 6700, y, false, page);
     page.filled(b"<text x=\"692\" y=\"@At0\">", &[foot]);
-    names::layer(layer, page);
+    names::layer(layer.into(), page);
     counted(
         curve::count_of_layer(view, layer.into()),
         b", 1 row</text>\n",
@@ -54,7 +54,7 @@ fn cusps(page: &mut Page)
         b"<path d=\"M656 212h28\" stroke=\"#000\" stroke-width=\"1.2\" stroke-dasharray=\"5 4\"/><text x=\"692\" y=\"217\">jump at a cusp</text>\n",
     );
     for (layer, x) in [(Layer::E, 6590), (Layer::F1, 6700), (Layer::F2, 6810)] {
-        curve::mark(layer, x, 2340, true, page);
+        curve::mark(layer.into(), x, 2340, true, page);
     }
     page.text(b"<text x=\"692\" y=\"239\">made at a cusp</text>\n");
 }

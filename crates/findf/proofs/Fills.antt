@@ -1,7 +1,8 @@
 -- For `filling_of`, `filled` and `walk_rows`: the numbers of `Safe`, and the row's angle, once it is known which row is filled.
-use Rattle.std.proofs.Common.{◌≡◌, ℕ, ◌≤◌, List, ap, lt_irrefl}
+use Rattle.std.proofs.Common.{◌≡◌, ℕ, ◌≤◌, List, ap, lt_irrefl, arith}
 use lib.Ieee.{Float}
 use Rattle.arith.specs.Floats.{◌⊗◌, D2R}
+use Rattle.findf.specs.Walk.{back_of}
 use Rattle.findf.specs.Requires.{takes, interpolates, follows}
 use Rattle.findf.specs.Requires.{tabled_of, Angled}
 use Rattle.findf.specs.Rows.{raw_of}
@@ -11,6 +12,13 @@ use Rattle.findf.specs.declared.walk.Fill.{Fill}
 use Rattle.findf.specs.declared.walk.Fill.TheVariants.{Exact, Interp, Cusp, NextCusp360}
 use Rattle.findf.specs.declared.rows.Raw.{Raw}
 use Rattle.findf.specs.declared.Tables.{Tables}
+
+-- what a row gives back was taken
+pub back_takes : (fill : Fill) → back_of fill ≤ takes (L.Fill fill)
+back_takes Exact = omega arith
+back_takes Interp = omega arith
+back_takes Cusp = omega arith
+back_takes NextCusp360 = omega arith
 
 -- what the numbers of a fill are, once it is known
 pub asks : {f g : Fill} → f ≡ g → (takes (L.Fill f) ≡ takes (L.Fill g)) × ((interpolates (L.Fill f) ≡ interpolates (L.Fill g)) × (follows (L.Fill f) ≡ follows (L.Fill g)))

@@ -134,10 +134,11 @@ fn started(
     requires { Entries tables.now.ifob × ((nang ≤ 40) × (freq_within freq ≡ true)) }
     ensures { answered result rfx.new ≡ started_of rfx.old nang freq amind second third tables.now }
 {
+    // Apart from the column behind it: cleared together, the two would be one call of memset.
+    rfx.delfx = [0.0; 45];
     let p = penang::penang(&tables.fvert, &tables.htrue, second, freq);
     let delpen = p.delpen;
     rfx.hpflx = [0.0; 45];
-    rfx.delfx = [0.0; 45];
     rfx.gdflx = [0.0; 45];
     rfx.kind = [0; 45];
     rfx.rows_this_call = 0;

@@ -4,7 +4,6 @@
 ghost use Rattle.std.specs.Prelude.{◌≡◌};
 ghost use Rattle.decimal.specs.Page.{added};
 ghost use Rattle.names.specs.Names.{plain_of, plains_of, last_of, cut_of, shown_of, width_of, layer_of};
-ghost use Rattle.view.specs.View.{layer_number};
 
 use decimal::Page;
 use view::Layer;
@@ -70,11 +69,11 @@ pub fn shown(name: &[u8], page: &mut Page)
     cut(last(name), page);
 }
 
-// A layer's name.
-pub fn layer(layer: Layer, page: &mut Page)
-    ensures { page.new ≡ added page.old (layer_of (layer_number layer)) }
+// A layer's name, by its number: 1 E, 2 F1, else F2.
+pub fn layer(n: u32, page: &mut Page)
+    ensures { page.new ≡ added page.old (layer_of n) }
 {
-    match layer {
+    match Layer::from(n) {
         Layer::E => page.text(b"E"),
         Layer::F1 => page.text(b"F1"),
         Layer::F2 => page.text(b"F2"),

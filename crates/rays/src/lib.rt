@@ -138,10 +138,7 @@ fn listed(slot: Slot, page: &mut Page)
         b"<circle cx=\"673\" cy=\"@At0\" r=\"9\" fill=\"#fff\" stroke=\"#000\" stroke-width=\"1.3\"/><text x=\"673\" y=\"@Bt0\" text-anchor=\"middle\" font-weight=\"bold\">@Cw0</text><text x=\"752\" y=\"@Bt0\" text-anchor=\"end\">@D3i</text><text x=\"758\" y=\"@Bt0\">deg</text><text x=\"796\" y=\"@Bt0\">",
         &[y, y + 40, slot.s as u32 + 1, slot.bits()],
     );
-    names::layer(
-        view::word(slot.view.answer, layout::ITMOD + slot.s).into(),
-        page,
-    );
+    names::layer(view::word(slot.view.answer, layout::ITMOD + slot.s), page);
     page.text(b"</text>\n");
 }
 

@@ -19,7 +19,7 @@ const FARTHEST_SKIP: u32 = 0x461c_4000;
 fn letters(layer: Layer, page: &mut Page)
     ensures { Extends page.old page.new }
 {
-    names::layer(layer, page);
+    names::layer(layer.into(), page);
     if layer == Layer::E {
         page.put(b' ');
     }
@@ -101,7 +101,7 @@ fn nearest(view: View, page: &mut Page)
         page.text(b"none below 10000 km\n");
     } else {
         page.filled(b"@A1i km at @B3i deg, layer ", &v);
-        names::layer(word(view.answer, layout::ISKP).into(), page);
+        names::layer(word(view.answer, layout::ISKP), page);
         page.text(b"\n");
     }
 }
