@@ -120,6 +120,55 @@ pub struct Walked {
     pub rfx: Reflectrix,
 }
 
+/// The numbers of a reflectrix beside its columns.
+#[repr(C)]
+#[derive(Clone, Copy)]
+pub struct Figures {
+    pub dskpkm: f32,
+    pub delskp: f32,
+    pub hpskp: f32,
+    pub htskp: f32,
+    pub dmaxkm: f32,
+    pub fvskp: f32,
+    pub iskp: u32,
+    pub delpen: [f32; 3],
+    pub iaftxr: usize,
+    pub rows_this_call: usize,
+}
+
+impl From<&Reflectrix> for Figures {
+    #[rustfmt::skip]
+    fn from(rfx: &Reflectrix) -> Self {
+        let &Reflectrix {
+            dskpkm, delskp, hpskp, htskp, dmaxkm, fvskp, iskp, delpen, iaftxr, rows_this_call, ..
+        } = rfx;
+        Figures {
+            dskpkm, delskp, hpskp, htskp, dmaxkm, fvskp, iskp, delpen, iaftxr, rows_this_call,
+        }
+    }
+}
+
+impl Reflectrix {
+    #[rustfmt::skip]
+    pub fn set_figures(&mut self, figures: Figures) {
+        let Figures {
+            dskpkm, delskp, hpskp, htskp, dmaxkm, fvskp, iskp, delpen, iaftxr, rows_this_call,
+        } = figures;
+        (self.dskpkm, self.delskp, self.hpskp, self.htskp) = (dskpkm, delskp, hpskp, htskp);
+        (self.dmaxkm, self.fvskp, self.iskp, self.delpen) = (dmaxkm, fvskp, iskp, delpen);
+        (self.iaftxr, self.rows_this_call) = (iaftxr, rows_this_call);
+    }
+}
+
+/// `findf`'s answer where the columns are lent.
+#[repr(C)]
+#[derive(Clone, Copy)]
+pub struct Outcome {
+    pub refusal: u32,
+    pub looks: u32,
+    pub figures: Figures,
+}
+
 /// The tables of one point; `ifob` angle by angle.
 #[repr(C)]
 #[derive(Clone, Copy)]
@@ -141,7 +190,7 @@ impl From<&FindfJob> for Tables {
 /// `findf`'s answer where the reflectrix is lent.
 #[repr(C)]
 #[derive(Clone, Copy)]
-pub struct Outcome {
+pub struct InPlace {
     pub refusal: u32,
     pub looks: u32,
 }
@@ -267,8 +316,8 @@ unsafe extern "C" {
     ) -> Walked;
 
     /// The same into a lent reflectrix.
-    #[link_name = "ray_findf_into"]
-    pub safe fn findf_into(
+    #[link_name = "ray_findf_over"]
+    pub safe fn findf_over(
         rfx: &mut Reflectrix,
         k: usize,
         nang: usize,
@@ -276,6 +325,30 @@ unsafe extern "C" {
         amind: f32,
         fi: &[[f32; 3]; 5],
         tables: &Tables,
+    ) -> InPlace;
+
+    /// The same into lent columns, with the figures by value.
+    #[link_name = "ray_findf_into"]
+    pub safe fn findf_into(
+        delfx: &mut [f32; 45],
+        hpflx: &mut [f32; 45],
+        htflx: &mut [f32; 45],
+        gdflx: &mut [f32; 45],
+        fvflx: &mut [f32; 45],
+        afflx: &mut [f32; 45],
+        imode: &mut [u32; 45],
+        kind: &mut [u32; 45],
+        figures: Figures,
+        k: usize,
+        nang: usize,
+        freq: f32,
+        amind: f32,
+        fi: &[[f32; 3]; 5],
+        fvert: &[f32; 30],
+        hprim: &[f32; 30],
+        htrue: &[f32; 30],
+        afac: &[f32; 30],
+        ifob: &[i32; 1200],
     ) -> Outcome;
 
     /// On a refusal the slots are as they were, and the counts 0.

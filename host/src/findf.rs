@@ -4,7 +4,7 @@ mod jobs;
 pub use jobs::*;
 
 use crate::ensure::{ensure, unchanged, Checked};
-use crate::entries::{self, FindfJob, Outcome, Reflectrix, Tables, Walked};
+use crate::entries::{self, Figures, FindfJob, InPlace, Outcome, Reflectrix, Tables, Walked};
 use crate::floats;
 use crate::guarded::Guarded;
 use crate::limits;
@@ -30,16 +30,36 @@ pub fn by_reference(rfx: Reflectrix, job: &FindfJob) -> Walked {
 }
 
 /// The library's findf into a lent record; the tables are the job's.
-pub fn in_place(rfx: &mut Reflectrix, job: &FindfJob, tables: &Tables) -> Outcome {
+pub fn in_place(rfx: &mut Reflectrix, job: &FindfJob, tables: &Tables) -> InPlace {
     let FindfJob { k, nang, freq, amind, fi, .. } = job;
-    entries::findf_into(rfx, *k, *nang, *freq, *amind, fi, tables)
+    entries::findf_over(rfx, *k, *nang, *freq, *amind, fi, tables)
+}
+
+/// The library's findf into the columns of a record; the figures go in and come back by value.
+pub fn into_columns(rfx: &mut Reflectrix, figures: Figures, job: &FindfJob) -> Outcome {
+    let FindfJob { k, nang, freq, amind, fi, fvert, hprim, htrue, afac, ifob } = job;
+    let Reflectrix { delfx, hpflx, htflx, gdflx, fvflx, afflx, imode, kind, .. } = rfx;
+    entries::findf_into(
+        delfx, hpflx, htflx, gdflx, fvflx, afflx, imode, kind, figures, *k, *nang, *freq, *amind,
+        fi, fvert, hprim, htrue, afac, ifob,
+    )
 }
 
 /// The same as by value, where the record stands between words that no call may touch.
 fn ours_in_place(rfx: Reflectrix, job: &FindfJob) -> Walked {
     let mut lent = Guarded::new(rfx);
-    let Outcome { refusal, looks } = in_place(&mut lent.lent, job, &Tables::from(job));
+    let InPlace { refusal, looks } = in_place(&mut lent.lent, job, &Tables::from(job));
     assert!(lent.is_intact());
+    Walked { refusal, looks, rfx: lent.lent }
+}
+
+/// The same into the columns of such a record.
+fn ours_into_columns(rfx: Reflectrix, job: &FindfJob) -> Walked {
+    let mut lent = Guarded::new(rfx);
+    let Outcome { refusal, looks, figures } =
+        into_columns(&mut lent.lent, Figures::from(&rfx), job);
+    assert!(lent.is_intact());
+    lent.lent.set_figures(figures);
     Walked { refusal, looks, rfx: lent.lent }
 }
 
@@ -77,7 +97,7 @@ pub fn led(rfx: Reflectrix, job: &FindfJob) -> Walked {
 pub type Walk = fn(Reflectrix, &FindfJob) -> Walked;
 
 /// The library's.
-pub const OURS: [Walk; 3] = [ours, ours_in_place, by_reference];
+pub const OURS: [Walk; 4] = [ours, ours_in_place, ours_into_columns, by_reference];
 
 /// Checks a job on a used reflectrix, by each of `walks`: the number by the limits, a refusal's
 /// reflectrix as it was, kinds too; an accepted one as the led Rust has it, and its kinds as the

@@ -1,4 +1,4 @@
-// A C entry of findf into a lent reflectrix, for the test host alone. It is a library of its own, in which findf_into is called from one place, as a product calls it.
+// C entries of findf into a lent reflectrix and into lent columns, for the test host alone. It is a library of its own, in which findf_into is called from one place, as a product calls it.
 #![tactic(auto)]
 
 ghost use Rattle.std.specs.Prelude.{◌≡◌};
@@ -7,6 +7,8 @@ ghost use Rattle.findf.specs.Findf.{findf_of};
 ghost use Rattle.findf_entry.specs.Entry.{left_with};
 
 use findf::{Reflectrix, Tables};
+
+pub mod columns;
 
 // The refusal's number, 0 where there is none; the turns of the inner loop. C gets it as it is, so it is no Result.
 #[repr(C)]
@@ -17,7 +19,7 @@ pub struct Outcome {
 }
 
 #[unsafe(no_mangle)]
-pub extern "C" fn ray_findf_into(
+pub extern "C" fn ray_findf_over(
     rfx: &mut Reflectrix,
     k: usize,
     nang: usize,

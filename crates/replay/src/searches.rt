@@ -1,4 +1,4 @@
-// fdist by value, on slots that were used before and any reflectrix.
+// fdist by reference, on slots that were used before and any reflectrix: what the call leaves in the slots is compared, refused or not.
 use super::{record, walks};
 use fdist::HopModes;
 
@@ -64,15 +64,17 @@ pub(crate) fn agrees(r: &[u8]) -> bool {
     }
     let rows = &r[ROWS..];
     let left = &r[LEFT..];
-    let outcome = fdist::fdist(
-        walks::reflectrix(rows),
+    let mut m = slots(r);
+    let outcome = by_reference::fdist(
+        &mut m,
+        &walks::reflectrix(rows),
         record::float(r, GHOP),
         record::float(r, AMIND),
         record::float(r, FREQ),
     );
-    let (pairs, rays, m) = match outcome {
-        Ok(found) => (found.pairs, found.rays, found.m),
-        Err(_) => (0, 0, slots(r)),
+    let (pairs, rays) = match outcome {
+        Ok(counts) => (counts.pairs, counts.rays),
+        Err(_) => (0, 0),
     };
     (words::word(r, ANSWER) == limits::code(outcome))
         & (words::word(r, PAIRS) == pairs)

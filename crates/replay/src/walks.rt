@@ -1,4 +1,4 @@
-// findf by value, on a reflectrix that was used before.
+// findf by reference, on a reflectrix that was used before: what the call leaves in it is compared, refused or not.
 ghost use Rattle.std.specs.Prelude.{◌<◌};
 
 use super::record;
@@ -150,9 +150,9 @@ pub(crate) fn agrees(r: &[u8]) -> bool {
         return false;
     }
     let left = &r[LEFT..];
-    let rfx = reflectrix(r);
-    let outcome = findf::findf(
-        rfx,
+    let mut rfx = reflectrix(r);
+    let outcome = by_reference::findf(
+        &mut rfx,
         record::count(r, K),
         record::count(r, NANG),
         record::float(r, FREQ),
@@ -160,12 +160,8 @@ pub(crate) fn agrees(r: &[u8]) -> bool {
         points(r),
         tables(r),
     );
-    let (looks, rfx) = match outcome {
-        Ok(walked) => (walked.looks, walked.rfx),
-        Err(_) => (0, rfx),
-    };
     (words::word(r, ANSWER) == limits::code(outcome))
-        & (words::word(r, LOOKS) == looks)
+        & (words::word(r, LOOKS) == outcome.unwrap_or(0))
         & are_columns(left, &rfx)
         & are_figures(left, &rfx)
 }
