@@ -1,8 +1,8 @@
 -- For `findf_into`: what the outcome of the checks shows. Assumes nothing.
-use Rattle.std.proofs.Common.{◌≡◌, ◌∙◌, ap, ℕ, zero, suc, ◌≤◌, true, refl, leb-true, Err}
+use Rattle.std.proofs.Common.{◌≡◌, ◌∙◌, sym, ap, ℕ, zero, suc, ◌≤◌, true, refl, leb-true, Result, Ok, Err}
 use Rattle.std.specs.Prelude.{⊤}
 use lib.Ieee.{Float}
-use Rattle.limits.specs.Limits.{broken, number_of, freq_within}
+use Rattle.limits.specs.Limits.{broken, number_of, code_of, freq_within}
 use Rattle.limits.proofs.ChainLaws.{not_accepted}
 use Rattle.limits.proofs.LimitsLaws.{unbroken}
 use Rattle.limits.specs.declared.Refusal.{Refusal}
@@ -12,6 +12,11 @@ use Rattle.findf.specs.Requires.{Entries, started_of}
 use Rattle.findf.specs.Inputs.{Job, second_of, third_of}
 use Rattle.findf.specs.Findf.{limits_of, refused_of, findf_by, findf_of}
 use Rattle.findf.specs.declared.Reflectrix.{Reflectrix}
+
+-- a number that is not 0 is that of a refusal
+pub refused_by_lem : {A : Type 0} (n : ℕ) (a : Result A Refusal) → (n ≡ 0 → ⊥) → code_of a ≡ n → (e : Refusal) × (Err e ≡ a) × (number_of e ≡ n)
+refused_by_lem n (Ok x) h k = absurd (h (sym k))
+refused_by_lem n (Err e) h k = (e, refl, k)
 
 -- the checks' outcome, once it is known, decides
 module _ (r : Reflectrix) (j : Job) where

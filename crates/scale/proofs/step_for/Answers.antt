@@ -2,7 +2,7 @@ use Rattle.std.proofs.Common.{rules, ◌≡◌, ℕ, ◌*◌, ◌<◌, ◌≤◌
 use Rattle.std.specs.List.{range_with_len, AllWithin, HoldsAt}
 use Rattle.std.specs.Option.{MatchOption}
 use Rattle.std.proofs.lemmas.Iterator.{first_from_find, YieldsList-from_slice}
-use borrow.Author.Tests.{tests}
+use borrow.Author.Tests.{tests, false-leb}
 use Rattle.scale.specs.Scale.{step_at}
 use Rattle.scale.proofs.ScaleLaws.{steps_are}
 use Rattle.scale.proofs.step_for.Goals as goal
@@ -13,7 +13,7 @@ steps = map step_at (range_with_len 0 21)
 
 found : (c : After-find) → MatchOption c.find.result (AllWithin (λ s. c.args.most * s < c.args.top) steps 0 21) (λ x. (c.args.top ≤ c.args.most * x.now) × (i : ℕ) × (i < 21) × HoldsAt (λ y. y ≡ x.now) steps i × AllWithin (λ s. c.args.most * s < c.args.top) steps 0 i)
 unfolding step_at
-found c = first_from_find _ _ _ (λ s. c.args.top ≤ c.args.most * s) (λ s. c.args.most * s < c.args.top) c.find.ensures.ran (YieldsList-from_slice steps c.iter.ensures.rest) (λ x q k. search (rules, tests)) (λ x q k. search (rules, tests))
+found c = first_from_find _ _ _ (λ s. c.args.top ≤ c.args.most * s) (λ s. c.args.most * s < c.args.top) c.find.ensures.ran (YieldsList-from_slice steps c.iter.ensures.rest) (λ x q k. search (rules, tests)) (λ x q k. (search rules, false-leb _ _ (search rules)))
 
 pub returns-in-Some-clause-least : goal.returns-in-Some-clause-least
 returns-in-Some-clause-least c =
