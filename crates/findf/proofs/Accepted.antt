@@ -1,8 +1,8 @@
 -- For `findf_into`: what the outcome of the checks shows. Assumes nothing.
-use Rattle.std.proofs.Common.{◌≡◌, ◌∙◌, sym, ap, ℕ, zero, suc, ◌≤◌, true, refl, leb-true, Result, Ok, Err}
+use Rattle.std.proofs.Common.{◌≡◌, ◌∙◌, sym, ap, arith, ℕ, zero, suc, ◌<◌, ◌≤◌, true, refl, leb-true, Result, Ok, Err}
 use Rattle.std.specs.Prelude.{⊤}
 use lib.Ieee.{Float}
-use Rattle.limits.specs.Limits.{broken, number_of, code_of, freq_within}
+use Rattle.limits.specs.Limits.{broken, number_of, code_of, k_within, freq_within}
 use Rattle.limits.proofs.ChainLaws.{not_accepted}
 use Rattle.limits.proofs.LimitsLaws.{unbroken}
 use Rattle.limits.specs.declared.Refusal.{Refusal}
@@ -39,6 +39,9 @@ module _ (r : Reflectrix) (j : Job) where
       → started_of r j.nang j.freq j.amind second third j.tables ≡ findf_of r j
   unfolding findf_of findf_by started_of
   walks e k = rw (e, k.0, k.1)
+
+pub below_five : (k : ℕ) → k_within k ≡ true → k < 5
+below_five k e = omega (arith, leb-true k 4 e)
 
 -- what the walk asks of a job with no broken limit
 pub fit : (j : Job) → broken (limits_of j) ≡ 0 → Entries j.tables.ifob × ((j.nang ≤ 40) × (freq_within j.freq ≡ true))
