@@ -101,13 +101,14 @@ fn found(file: &[u8], page: &mut Page)
     }
 }
 
-// Of a file and the first limit that it breaks.
+// Of a file whose first broken limit is `number`. One that no limit has is told as Es.
 #[tactic(auto, using(decimal::proofs::PageLaws::pages), unfolding(words::specs::Lists::tab, crate::specs::Refusal::refusal_text))]
-pub fn refusal(name: &[u8], file: &[u8], broken: Refusal, page: &mut Page)
-    ensures { page.new ≡ added page.old (refusal_text name.now file.now (number_of broken)) }
+pub fn refusal(name: &[u8], file: &[u8], number: u32, page: &mut Page)
+    ensures { page.new ≡ added page.old (refusal_text name.now file.now number) }
 {
+    let broken = Refusal::try_from(number).unwrap_or(Refusal::Es);
     names::plains(name, page);
-    page.filled(b": refused, limit @Aw0: ", &[broken.into()]);
+    page.filled(b": refused, limit @Aw0: ", &[number]);
     sentence(broken, page);
     found(file, page);
 }

@@ -5,6 +5,9 @@ use decimal::Page;
 use scale::Axis;
 use view::View;
 
+// No axis has more marks, with that at 0.
+const MARKS: u32 = 11;
+
 // The units of an axis in its numbers' unit: 0.1 km and 0.001 deg.
 const ACROSS: u32 = 10;
 
@@ -44,7 +47,7 @@ fn each<F: Fn(u32, &mut Page)>(from: u32, axis: Axis, page: &mut Page, draw: F)
     requires extends { (i : _) (p : _) (q : _) → F.post draw i p tt q → Extends p.now q.now }
     ensures { Extends page.old page.new }
 {
-    for i in from..=axis.count {
+    for i in from..=axis.count.min(MARKS - 1) {
         draw(i, page);
     }
 }

@@ -95,7 +95,7 @@ fn written<R: Files + Eprint, O: Print, E: Print>(
     let mut answer = [0u8; layout::ANSWER_BYTES];
     let outcome = page::numbered(job, &mut answer);
     complained(io, outcome, |broken, page| {
-        refusal::refusal(name, job, broken, page)
+        refusal::refusal(name, job, broken.into(), page)
     })?;
     io.write(job, file)
 }

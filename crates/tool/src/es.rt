@@ -31,7 +31,7 @@ fn answered<R, O: Print, E: Print>(
     ensures { ends_as (number_of file.now) (status_of result) ≡ true }
 {
     complained(io, held(file), |broken, page| {
-        es_sheet::refusal(name, file, broken, page)
+        es_sheet::refusal(name, file, broken.into(), page)
     })?;
     let mut bytes = [0u8; 65536];
     let mut page = Page::new(&mut bytes);

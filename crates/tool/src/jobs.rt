@@ -8,6 +8,7 @@ use crate::refused::{complained, reported};
 use command::{Verb, count, word};
 use decimal::Page;
 use job::layout;
+use limits::Refusal;
 use std::rt::Files;
 use system::{Failure, Io, shown};
 use view::View;
@@ -43,7 +44,7 @@ fn answered<R: Files + Eprint, O: Print, E: Print>(
 {
     let mut answer = [0u8; layout::ANSWER_BYTES];
     let outcome = page::numbered(job, &mut answer);
-    let lines = |broken, page: &mut Page| refusal::refusal(name, job, broken, page);
+    let lines = |broken: Refusal, page: &mut Page| refusal::refusal(name, job, broken.into(), page);
     if verb == Verb::Check {
         reported(io, outcome, lines)?;
     } else {
