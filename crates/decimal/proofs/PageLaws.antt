@@ -2,7 +2,9 @@
 use Rattle.std.proofs.Common.{◌≡◌, ℕ, zero, suc, ◌+◌, ◌-◌, ◌<◌, ◌≤◌, Bool, true, false, List, [], ◌∷◌, ◌++◌, length, get_or, set, take, drop, replicate, refl, sym, ap, ◌∙◌, append_assoc, append-nil, add-one, arith, length-append, length-take, min, leb-true, leb-false}
 use lib.Dec.{leb}
 use native.Mathlib.Nat.{sub-zero}
+use borrow.Rule.Slice.PartMut.{put_mid}
 use Rattle.std.proofs.Math.Seq.{drop-append_seam, take-append-add}
+use Rattle.std.proofs.lemmas.Slice.{take-put_mid, drop-put_mid}
 use lib.Seq.{drop-length, take-suc, take_all}
 use Rattle.std.proofs.lemmas.List.{drop-drop, length-drop, take_more_set, drop-set-lt, drop_all, drop-append-le, take-append-drop, take-take}
 use Rattle.words.specs.Lists.{put_at}
@@ -127,6 +129,25 @@ put_one bytes end b loan h =
     let room : length (drop end bytes) ≡ suc (length bytes - end - 1) = length-drop end bytes ∙ omega (arith, h) in
     let one : take (suc (length bytes - end - 1)) (b ∷ []) ≡ b ∷ [] = ap (λ (l : List ℕ). b ∷ l) (take_none (length bytes - end - 1)) in
     rw (take_more_set bytes end b h, drop-set-lt (end + 1) bytes end b (omega arith), room, one, drop-drop) refl
+
+-- for `text`: n bytes of it in the place of those from `end` on
+pub put_text : (bytes s ys : List ℕ) (end n k loan : ℕ) → end ≤ length bytes → n ≡ min (length s) (length bytes - end) → k ≡ n → ys ≡ take n s → page_of (put_mid end k bytes ys) (end + n) loan ≡ added (page_of bytes end loan) s
+unfolding added
+put_text bytes s ys end n k loan h e q y =
+    let long : length ys ≡ n = ap length y ∙ length-take n s ∙ omega (arith, e) in
+    let text : take (end + n) (put_mid end k bytes ys) ≡ take end bytes ++ ys = take-put_mid end k bytes ys (end + n) (omega (arith, long)) h in
+    let rest : drop (end + n) (put_mid end k bytes ys) ≡ drop (end + n) bytes = drop-put_mid end k bytes ys (end + n) (omega (arith, q)) h (long ∙ sym q) in
+    rw (text, rest, y, length-drop, drop-drop) (by (leb (length s) (length bytes - end)) refl)
+  where
+    by : (b : Bool) → leb (length s) (length bytes - end) ≡ b → ◌≡◌ {A = Written} (record { text = take end bytes ++ take n s; rest = drop (end + n) bytes; loan = loan }) (record { text = take end bytes ++ take (length bytes - end) s; rest = drop (end + length s) bytes; loan = loan })
+    by true f =
+        let few = leb-true (length s) (length bytes - end) f in
+        let m : n ≡ length s = omega (arith, e, few) in
+        rw (m, take_all (length s) s (omega arith), take_all (length bytes - end) s few) refl
+    by false f =
+        let many = leb-false (length s) (length bytes - end) f in
+        let m : n ≡ length bytes - end = omega (arith, e, many) in
+        rw (m, drop_all (end + (length bytes - end)) bytes (omega (arith, h)), drop_all (end + length s) bytes (omega (arith, h, many))) refl
 
 -- for `truncate`
 pub cut_back : (bytes : List ℕ) (end n loan : ℕ) → end ≤ length bytes → page_of bytes (min end n) loan ≡ shortened (page_of bytes end loan) n

@@ -59,9 +59,9 @@ impl<'a> Page<'a> {
     pub fn text(&mut self, s: &[u8])
         ensures { self.new ≡ added self.old s.now }
     {
-        for b in s {
-            self.put(*b);
-        }
+        let n = s.len().min(self.bytes.len() - self.end);
+        self.bytes[self.end..self.end + n].copy_from_slice(&s[..n]);
+        self.end += n;
     }
 
     // No more than its first `len` bytes.

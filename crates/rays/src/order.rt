@@ -39,18 +39,23 @@ impl Slot<'_> {
         curve::is_number(self.bits()) && self.view.slot(self.s) == State::TooLow
     }
 
-    // Whether it holds a ray that comes before another slot's: it is lower, or as high and its slot is the earlier one.
-    fn is_before(self, other: Slot) -> bool {
-        self.is_ray() && (self.angle(), self.s) < (other.angle(), other.s)
+    // Whether it holds a ray that comes before that of slot s, which has this angle: it is lower, or as high and its slot is the earlier one.
+    fn is_before(self, angle: u32, s: usize) -> bool {
+        self.is_ray() && (self.angle(), self.s) < (angle, s)
     }
 
     // How many rays come before its own.
     fn rank(self) -> usize
         ensures { result ≤ 6 }
     {
-        slots(self.view)
-            .iter()
-            .filter(|slot| slot.is_before(self))
+        let Slot { view, s: own, .. } = self;
+        let angle = self.angle();
+        (0..layout::SLOTS)
+            .filter(
+                |s|
+                    requires { s.now < 6 }
+                { Slot { view, s: *s }.is_before(angle, own) },
+            )
             .count()
     }
 
@@ -73,8 +78,12 @@ pub(crate) fn slots<'a>(view: View<'a>) -> [Slot<'a>; layout::SLOTS] {
 
 // The slot of the ray of rank i.
 pub(crate) fn at_rank<'a>(view: View<'a>, i: usize) -> Option<Slot<'a>> {
-    slots(view)
-        .into_iter()
+    (0..layout::SLOTS)
+        .map(
+            |s|
+                requires { s < 6 }
+            { Slot { view, s } },
+        )
         .find(|slot| slot.is_ray() && slot.rank() == i)
 }
 
