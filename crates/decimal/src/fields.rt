@@ -6,6 +6,7 @@
 ghost use Rattle.std.specs.Prelude.{◌≡◌};
 ghost use Rattle.decimal.specs.Page.{added};
 ghost use Rattle.decimal.specs.Filled.{count_of, value_of, field_text, filled_text};
+ghost use Rattle.decimal.specs.Requires.{Plain, RunOf};
 
 use crate::Page;
 
@@ -23,6 +24,17 @@ fn value(v: &[u32], b: u8) -> u32
     match b.checked_sub(b'A') {
         Some(i) => v.get(i as usize).copied().unwrap_or(0),
         None => 0,
+    }
+}
+
+// How many bytes stand for themselves, of a text that begins with no field: up to the next `@`.
+fn plain(t: &[u8]) -> usize
+    requires { Plain t.now }
+    ensures { RunOf t.now result }
+{
+    match t[1..].iter().position(|b| *b == b'@') {
+        Some(i) => i + 1,
+        None => t.len(),
     }
 }
 
@@ -52,11 +64,12 @@ impl<'a> Page<'a> {
                     self.field(v, *which, *how, *wide);
                     rest = after;
                 }
-                [b, after @ ..] => {
-                    self.put(*b);
-                    rest = after;
-                }
                 [] => return,
+                _ => {
+                    let n = plain(rest);
+                    self.text(&rest[..n]);
+                    rest = &rest[n..];
+                }
             }
         }
     }
